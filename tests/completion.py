@@ -61,6 +61,7 @@ def completions(work):
         (["lint", "--allow", "ne"], ["never-started", "never-stopped"]),
         (["lint", "--event", ""], []),
         (["lint", "j"], ["jobs"]),
+        (["chart", "--"], ["--bundle", "--help"]),
     ]:
         check(f"completion: initd {' '.join(words)}", sorted(completed(work, "initd", *words)), wanted)
 

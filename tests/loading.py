@@ -58,7 +58,7 @@ def over_an_image(work):
 
 
 def recorded(work):
-    """A run whose jobs are exchanged is recorded as a bundle, whose replay prints what the run told; a refused reload ends the record."""
+    """A run whose jobs are exchanged is recorded as a bundle, whose replay prints what the run told."""
     folder, record = work / "recorded", work / "run.record"
     write(folder, {"a.conf": "start on startup\nexec sleep 1006\n", "b.conf": "start on started a\nrespawn\nexec sleep 1006\n"})
     run = Run(work, "recorded", folder, "--verbose", "--record", record)
@@ -83,27 +83,53 @@ def recorded(work):
         told = run.end()
     again, status = initd("replay", "--bundle", record, "--env", SEARCHED)
     check("its replay prints the same", (again, status), (without_comments(told), 0))
+    starts, status = initd("blame", "--bundle", record)
+    check("its starts are told", (sorted(line.split()[-1] for line in starts.splitlines()), status), (["a", "b", "c", "c"], 0))
+    picture, status = initd("chart", "--bundle", record)
+    check("its picture has a row for each instance", ([f">{name}<" in picture for name in "abc"], status), ([True] * 3, 0))
 
 
-def ended(work):
-    """A reload that is refused ends the record, which says so."""
-    folder, image, record = work / "ended", work / "ended.image", work / "ended.record"
+def refused(work):
+    """Reloads that change nothing are lines of the record, which goes on as the script that it was."""
+    folder, image, record = work / "refused", work / "refused.image", work / "refused.record"
     write(folder, {"a.conf": "start on startup\n" + SLEEPS})
     initd("compile", folder, image)
-    run = Run(work, "ended", image, "--record", record)
+    run = Run(work, "refused", image, "--verbose", "--record", record)
     try:
+        check("a service comes up", wait_for(lambda: run.pid("a")), True)
         image.write_bytes(b"")
         check("an empty image is refused", run.ask("reload-configuration"), ("initctl: Configuration refused: 32\n", 1))
-        wait_for(lambda: "the record ends" in run.err.read_text())
-        wanted = "# The record ends: no step says what came next: load 1"
-        check("which ends the record", record.read_text().splitlines()[-1], wanted)
-        check("and is said", "initd: the record ends: no step of a script says what came next" in run.err.read_text(), True)
+        image.unlink()
+        check("one that is gone isn't read", run.ask("reload-configuration"), ("initctl: Configuration not read\n", 1))
+        check("the run goes on", run.ask("stop", "a"), ("a stop/waiting\n", 0))
+    finally:
+        told = run.end()
+    loads = [line.split(maxsplit=2)[2] for line in record.read_text().splitlines() if line.startswith("load ")]
+    check("both are recorded", loads, ["refused 32", "unread"])
+    check("nothing is said of the record", "the record" in run.err.read_text(), False)
+    again = initd("replay", folder, record, "--env", SEARCHED)
+    check("its replay prints the same", again, (without_comments(told), 0))
+
+
+def taken(work):
+    """A file that stands where the record would be written anew is left alone, and the record ends."""
+    folder, record, other = work / "taken", work / "taken.record", work / "taken.record.new"
+    write(folder, {"a.conf": SLEEPS})
+    write(work, {"taken.record.new": "somebody else's\n"})
+    run = Run(work, "taken", folder, "--record", record)
+    try:
+        check("jobs are loaded", run.ask("reload-configuration"), ("", 0))
+        check("the record ends, which is said", wait_for(lambda: "initd: the record ends: File exists\n" in run.err.read_text()), True)
+        check("the other file is left", other.read_text(), "somebody else's\n")
+        check("the record is what it was", record.read_text().startswith(f"# initd replay {folder} "), True)
+        check("the run goes on", run.ask("status", "a"), ("a stop/waiting\n", 0))
     finally:
         run.end()
 
 
 def all_of(work):
     recorded(work)
-    ended(work)
+    refused(work)
+    taken(work)
     over_a_folder(work)
     over_an_image(work)

@@ -71,8 +71,15 @@ const SOURCE: Argument = Argument {
 const RECORD: Argument = Argument {
     id: "RECORD",
     shown: "RECORD",
-    help: "The file of what happened, such as --record writes",
-    kind: ArgumentKind::Place,
+    help: "The file of what happened, such as --record writes; none with --bundle",
+    kind: ArgumentKind::LastPlace,
+};
+
+const BUNDLE: Argument = Argument {
+    id: "bundle",
+    shown: "",
+    help: "Takes one file in place of both, a bundle, which has its folders and its script",
+    kind: ArgumentKind::Flag,
 };
 
 static SUBCOMMANDS: [Subcommand; 9] = [
@@ -140,12 +147,7 @@ static SUBCOMMANDS: [Subcommand; 9] = [
                 help: "The file of what happens; none with --bundle",
                 kind: ArgumentKind::LastPlace,
             },
-            Argument {
-                id: "bundle",
-                shown: "",
-                help: "Replays the file of a bundle, which has its folders and its script, in place of DIR|IMAGE and SCRIPT",
-                kind: ArgumentKind::Flag,
-            },
+            BUNDLE,
             Argument {
                 id: "env",
                 shown: "KEY=VALUE",
@@ -157,12 +159,12 @@ static SUBCOMMANDS: [Subcommand; 9] = [
     Subcommand {
         name: "chart",
         about: "Prints a picture, in SVG, of what a record says that instances did, and when",
-        arguments: &[SOURCE, RECORD],
+        arguments: &[SOURCE, RECORD, BUNDLE],
     },
     Subcommand {
         name: "blame",
         about: "Prints how long each start in a record took, the longest first",
-        arguments: &[SOURCE, RECORD],
+        arguments: &[SOURCE, RECORD, BUNDLE],
     },
     Subcommand {
         name: "run",

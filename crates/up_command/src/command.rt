@@ -71,6 +71,11 @@ pub enum Invocation<'a> {
         source: &'a str,
         log: &'a str,
     },
+    /// To show what a record says that is a bundle.
+    ViewFile {
+        view: View,
+        bundle: &'a str,
+    },
     /// To run the jobs of a folder or of an image, with a socket for clients.
     Run {
         source: &'a str,
@@ -97,10 +102,26 @@ fn parse_compile<'a>(given: &ArgMatches<'a>) -> Option<Invocation<'a>> {
     Some(Invocation::Compile { dir, image })
 }
 
-fn parse_view<'a>(view: View, given: &ArgMatches<'a>) -> Option<Invocation<'a>> {
+// A folder or an image, and the file of what happened to it; or a bundle, which has both and stands alone.
+enum Happened<'a> {
+    Over(&'a str, &'a str),
+    Bundle(&'a str),
+}
+
+fn parse_happened<'a>(given: &ArgMatches<'a>, file: &str) -> Option<Happened<'a>> {
     let source = given.get_str("SOURCE")?;
-    let log = given.get_str("RECORD")?;
-    Some(Invocation::View { view, source, log })
+    match (given.get_str(file), is_set(given, "bundle")) {
+        (Some(file), false) => Some(Happened::Over(source, file)),
+        (None, true) => Some(Happened::Bundle(source)),
+        (Some(_), true) | (None, false) => None,
+    }
+}
+
+fn parse_view<'a>(view: View, given: &ArgMatches<'a>) -> Option<Invocation<'a>> {
+    Some(match parse_happened(given, "RECORD")? {
+        Happened::Over(source, log) => Invocation::View { view, source, log },
+        Happened::Bundle(bundle) => Invocation::ViewFile { view, bundle },
+    })
 }
 
 fn is_set(given: &ArgMatches, flag: &str) -> bool {
@@ -153,24 +174,17 @@ fn parse_replay<'a>(
     alloc: Global,
     given: &ArgMatches<'a>,
 ) -> Result<Option<Invocation<'a>>, TextFault> {
-    let Some(source) = given.get_str("SOURCE") else {
+    let Some(happened) = parse_happened(given, "SCRIPT") else {
         return Ok(None);
     };
-    let script = given.get_str("SCRIPT");
-    if script.is_some() == is_set(given, "bundle") {
-        return Ok(None);
-    }
     let base = base_of(alloc, given.get_strs("env").unwrap_or(&[]))?;
-    Ok(Some(match script {
-        Some(script) => Invocation::Replay {
+    Ok(Some(match happened {
+        Happened::Over(source, script) => Invocation::Replay {
             source,
             script,
             base,
         },
-        None => Invocation::ReplayFile {
-            bundle: source,
-            base,
-        },
+        Happened::Bundle(bundle) => Invocation::ReplayFile { bundle, base },
     }))
 }
 
@@ -247,6 +261,17 @@ fn wanted(word: &str) -> &'static str {
     }
 }
 
+// Which word a command misses, or has beside a bundle.
+fn misses(word: &str, given: &ArgMatches) -> &'static str {
+    match (word, is_set(given, "bundle")) {
+        ("replay", false) =>
+            "SCRIPT is missing: what happened is in a file of its own, unless --bundle says that it is in the first",
+        (_, false) =>
+            "RECORD is missing: what happened is in a file of its own, unless --bundle says that it is in the first",
+        (_, true) => "--bundle takes one file, which has its folders and its script",
+    }
+}
+
 // What the matches of a command line ask for.
 fn parse_matches<'a>(
     alloc: Global,
@@ -258,7 +283,7 @@ fn parse_matches<'a>(
     };
     match parse_subcommand(alloc, word, given) {
         Ok(Some(invocation)) => Ok(invocation),
-        Ok(None) => Err(command.error(ErrorKind::MissingRequiredArgument, "a word is missing")?),
+        Ok(None) => Err(command.error(ErrorKind::MissingRequiredArgument, misses(word, given))?),
         Err(TextFault::Memory) => Err(Error::from(AllocError)),
         Err(_) => Err(command.error(ErrorKind::InvalidValue, wanted(word))?),
     }

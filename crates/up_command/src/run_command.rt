@@ -17,7 +17,7 @@ use up_disk::{
 use up_model::ExitStatus;
 use up_replay::replay::replay_bundle;
 use up_run::run_source;
-use up_tools::{compare_dir, lint_dir, view_source};
+use up_tools::{compare_dir, lint_dir, view_file, view_source};
 
 // Replays standard input, and returns the status. If it can't be used it is said why.
 fn replay_input(rt: &(impl Input + Print + Eprint + AllocGlobal)) -> io::Result<ExitStatus> {
@@ -75,6 +75,7 @@ pub fn run_command<
         } => print(rt, replay_source(rt, source, base, script)),
         Invocation::ReplayFile { bundle, base } => print(rt, replay_file(rt, bundle, base)),
         Invocation::View { view, source, log } => print(rt, view_source(rt, view, source, log)),
+        Invocation::ViewFile { view, bundle } => print(rt, view_file(rt, view, bundle)),
         Invocation::Run {
             source,
             socket,

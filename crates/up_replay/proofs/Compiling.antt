@@ -12,9 +12,11 @@ use Rattle.up_model.specs.declared.exit_status.ExitStatus.TheVariants.{Done}
 use Rattle.up_print.specs.declared.printed.Printed.{Printed}
 use Rattle.up_print.specs.Folders.{compile_outcome, faults_output, fault_line, prints, status_of, table_of, IsCompiled, IsTable, PrintsFaults}
 use Rattle.up_print.proofs.Reports.{any_report}
+use Rattle.up_script.specs.Bundle.{lines_of, files_of, later_folders, bad_line, script_line, script_text}
+use Rattle.up_script.specs.Statements.{script_inputs}
+use Rattle.up_replay.specs.declared.bundle.BundleRun.{BundleRun}
 use Rattle.up_replay.specs.declared.compiled.Compiled.{Compiled}
-use Rattle.up_replay.specs.Compiling.{all_compiled, with_folder, joined, Adds, AreCompiled, HasTables, IsOutcome, IsRefused}
-use Rattle.up_replay.specs.Replay.{after_first, folders_output, play_output, PlaysFirst, PrintsFolders}
+use Rattle.up_replay.specs.Compiling.{all_compiled, with_folder, joined, inputs_in, run_after, run_of, unless_bad, Adds, AreCompiled, Compiles, CompilesFolders, CompilesLater, HasTables, IsOutcome, IsRefused}
 use Rattle.up_replay.proofs.Outcomes.{same_table}
 use Rattle.up_replay.proofs.Telling.{flat-append}
 
@@ -158,63 +160,84 @@ refused_at folders i files before printed within is has adds =
 pub all_at : (folders : List (List File)) (i : ℕ) (found : Compiled) → length folders ≤ i → HasTables (take i folders) found → HasTables folders found
 all_at folders i found past has = subst (λ those. HasTables those found) (take_all i folders past) has
 
--- what is printed once the first folder is compiled, by what comes of the later ones
-pub first_plays : {E : Type 0} (base : List (List ℕ × List ℕ)) (name : List ℕ) (folders : List (List File)) (faults : Printed) (jobs : List JobDef) (read : List (List JobDef) → Result (List Input) ℕ) (found : Compiled) (made : Result Printed E)
-    → HasTables folders found → IfOk made (λ it. it ≡ play_output base name jobs (joined faults found.faults) (read found.tables.items))
-    → IfOk made (PlaysFirst base name folders faults jobs read)
-first_plays base name folders faults jobs read found (Err other) has is = tt
-first_plays base name folders faults jobs read found (Ok made) has is = record {
+-- what is to be run once the first folder is compiled, by what comes of the later ones
+pub later_made : {E : Type 0} (folders : List (List File)) (faults : Printed) (jobs : List JobDef) (read : List (List JobDef) → Result (List Input) ℕ) (found : Compiled) (made : Result BundleRun E)
+    → HasTables folders found → IfOk made (λ run. (run.faults ≡ joined faults found.faults) × (run.table ≡ jobs) × (run.read ≡ read found.tables.items))
+    → IfOk made (λ run. CompilesLater folders faults jobs read (Ok run))
+later_made folders faults jobs read found (Err other) has is = tt
+later_made folders faults jobs read found (Ok run) has is = record {
   later = has.made;
   are = has.are;
-  same = is ∙ ap (λ more. play_output base name jobs (joined faults more) (read found.tables.items)) has.same
-      ∙ ap (λ later. after_first base name faults jobs later read) (sym has.all);
+  same = ap Ok (run_same run (record { faults = joined faults found.faults; table = jobs; read = read found.tables.items }) is.0 is.1 is.2)
+      ∙ ap (λ more. Ok (record { faults = joined faults more; table = jobs; read = read found.tables.items })) has.same
+      ∙ ap (λ later. run_after faults jobs later read) (sym has.all);
 }
+  where
+    run_same : (one other : BundleRun) → one.faults ≡ other.faults → one.table ≡ other.table → one.read ≡ other.read → one ≡ other
+    run_same one other text table read = grind (text, table, read)
 
-pub first_refused : (base : List (List ℕ × List ℕ)) (name : List ℕ) (folders : List (List File)) (faults : Printed) (jobs : List JobDef) (read : List (List JobDef) → Result (List Input) ℕ) (made : Printed)
-    → IsRefused folders made → PlaysFirst base name folders faults jobs read made
-first_refused base name folders faults jobs read made refused = record {
+pub later_refused : (folders : List (List File)) (faults : Printed) (jobs : List JobDef) (read : List (List JobDef) → Result (List Input) ℕ) (printed : Printed)
+    → IsRefused folders printed → CompilesLater folders faults jobs read (Err printed)
+later_refused folders faults jobs read printed refused = record {
   later = refused.made;
   are = refused.are;
-  same = refused.same ∙ ap (λ later. after_first base name faults jobs later read) (sym refused.all);
+  same = ap Err refused.same ∙ ap (λ later. run_after faults jobs later read) (sym refused.all);
 }
 
--- what is printed after the first folder's faults is printed for all folders
-after_all : (base : List (List ℕ × List ℕ)) (name : List ℕ) (first : List JobDef × List Fault) (later : Result (List (List JobDef) × List Fault) CompileError) (read : List (List JobDef) → Result (List Input) ℕ)
-    → after_first base name (faults_output (Ok first)) first.0 later read ≡ folders_output base name (Ok first) later read
-after_all base name first (Ok later) read = ap (λ faults. play_output base name first.0 faults (read later.0)) (joined_faults first.0 [] first.0 first.1 later.1)
-after_all base name first (Err error) read = refl
+-- what is to be run after the first folder's faults is that of all folders
+after_all : (first : List JobDef × List Fault) (later : Result (List (List JobDef) × List Fault) CompileError) (read : List (List JobDef) → Result (List Input) ℕ)
+    → run_after (faults_output (Ok first)) first.0 later read ≡ run_of (Ok first) later read
+after_all first (Ok later) read = ap (λ faults. Ok (record { faults = faults; table = first.0; read = read later.0 })) (joined_faults first.0 [] first.0 first.1 later.1)
+after_all first (Err error) read = refl
 
-folders_made : (base : List (List ℕ × List ℕ)) (name : List ℕ) (files : List File) (folders : List (List File)) (faults : Printed) (jobs : List JobDef) (read : List (List JobDef) → Result (List Input) ℕ)
-    (first : Result (List JobDef × List Fault) CompileError) (made : Printed) → IsCompiled files first → faults ≡ faults_output first → Some jobs ≡ table_of first
-    → PlaysFirst base name folders faults jobs read made → PrintsFolders base name files folders read made
-folders_made base name files folders faults jobs read (Ok first) made is same has plays = record {
+folders_made : (files : List File) (folders : List (List File)) (faults : Printed) (jobs : List JobDef) (read : List (List JobDef) → Result (List Input) ℕ)
+    (first : Result (List JobDef × List Fault) CompileError) (made : Result BundleRun Printed) → IsCompiled files first → faults ≡ faults_output first → Some jobs ≡ table_of first
+    → CompilesLater folders faults jobs read made → CompilesFolders files folders read made
+folders_made files folders faults jobs read (Ok first) made is same has later = record {
   first = Ok first;
   is = is;
-  later = plays.later;
-  are = plays.are;
-  same = plays.same ∙ ap (λ its. after_first base name its jobs (all_compiled plays.later) read) same
-      ∙ ap (λ its. after_first base name (faults_output (Ok first)) its (all_compiled plays.later) read) (same_Some jobs first.0 has)
-      ∙ after_all base name first (all_compiled plays.later) read;
+  later = later.later;
+  are = later.are;
+  same = later.same ∙ ap (λ its. run_after its jobs (all_compiled later.later) read) same
+      ∙ ap (λ its. run_after (faults_output (Ok first)) its (all_compiled later.later) read) (same_Some jobs first.0 has)
+      ∙ after_all first (all_compiled later.later) read;
 }
-folders_made base name files folders faults jobs read (Err error) made is same has plays = absurd (none-some jobs (sym has))
+folders_made files folders faults jobs read (Err error) made is same has later = absurd (none-some jobs (sym has))
 
-pub folders_plays : {E : Type 0} (base : List (List ℕ × List ℕ)) (name : List ℕ) (files : List File) (folders : List (List File)) (faults : Printed) (jobs : List JobDef) (read : List (List JobDef) → Result (List Input) ℕ)
-    (made : Result Printed E) → IsOutcome files faults (Some jobs) → IfOk made (PlaysFirst base name folders faults jobs read) → IfOk made (PrintsFolders base name files folders read)
-folders_plays base name files folders faults jobs read (Err other) of plays = tt
-folders_plays base name files folders faults jobs read (Ok made) of plays = folders_made base name files folders faults jobs read of.made made of.is of.same of.has plays
+pub folders_compiled : {E : Type 0} (files : List File) (folders : List (List File)) (faults : Printed) (jobs : List JobDef) (read : List (List JobDef) → Result (List Input) ℕ)
+    (made : Result (Result BundleRun Printed) E) → IsOutcome files faults (Some jobs) → IfOk made (CompilesLater folders faults jobs read) → IfOk made (CompilesFolders files folders read)
+folders_compiled files folders faults jobs read (Err other) of later = tt
+folders_compiled files folders faults jobs read (Ok made) of later = folders_made files folders faults jobs read of.made made of.is of.same of.has later
 
--- what is printed where the first folder is refused
-folders_none : (base : List (List ℕ × List ℕ)) (name : List ℕ) (files : List File) (folders : List (List File)) (faults : Printed) (read : List (List JobDef) → Result (List Input) ℕ)
-    (first : Result (List JobDef × List Fault) CompileError) → IsCompiled files first → faults ≡ faults_output first → None ≡ table_of first → PrintsFolders base name files folders read faults
-folders_none base name files folders faults read (Ok first) is same has = absurd (none-some first.0 has)
-folders_none base name files folders faults read (Err error) is same has = record {
+-- where the first folder is refused
+folders_none : (files : List File) (folders : List (List File)) (faults : Printed) (read : List (List JobDef) → Result (List Input) ℕ)
+    (first : Result (List JobDef × List Fault) CompileError) → IsCompiled files first → faults ≡ faults_output first → None ≡ table_of first → CompilesFolders files folders read (Err faults)
+folders_none files folders faults read (Ok first) is same has = absurd (none-some first.0 has)
+folders_none files folders faults read (Err error) is same has = record {
   first = Err error;
   is = is;
   later = some_made folders;
   are = some_are folders;
-  same = same;
+  same = ap Err same;
 }
 
-pub folders_refused : (base : List (List ℕ × List ℕ)) (name : List ℕ) (files : List File) (folders : List (List File)) (faults : Printed) (read : List (List JobDef) → Result (List Input) ℕ)
-    → IsOutcome files faults None → PrintsFolders base name files folders read faults
-folders_refused base name files folders faults read of = folders_none base name files folders faults read of.made of.is of.same of.has
+pub folders_refused : (files : List File) (folders : List (List File)) (faults : Printed) (read : List (List JobDef) → Result (List Input) ℕ)
+    → IsOutcome files faults None → CompilesFolders files folders read (Err faults)
+folders_refused files folders faults read of = folders_none files folders faults read of.made of.is of.same of.has
+
+-- the folders of a bundle that was read
+pub bundle_compiled : (bytes : List ℕ) (files : List File) (folders : List (List File)) (bad : Option ℕ) (line : ℕ) (script : List ℕ) (made : Result BundleRun Printed)
+    → files ≡ files_of (lines_of bytes) → folders ≡ later_folders (lines_of bytes) → bad ≡ bad_line 1 (lines_of bytes) → line ≡ script_line 1 (lines_of bytes)
+    → script ≡ script_text (lines_of bytes) → CompilesFolders files folders (λ tables. unless_bad bad (script_inputs tables line script)) made → Compiles bytes made
+unfolding inputs_in
+bundle_compiled bytes files folders bad line script made its later wrong number text had =
+    let lines = lines_of bytes in
+    by_lines
+    (subst (λ found. CompilesFolders (files_of lines) (later_folders lines) (λ tables. unless_bad found (script_inputs tables (script_line 1 lines) (script_text lines))) made) wrong
+    (subst (λ n. CompilesFolders (files_of lines) (later_folders lines) (λ tables. unless_bad bad (script_inputs tables n (script_text lines))) made) number
+    (subst (λ said. CompilesFolders (files_of lines) (later_folders lines) (λ tables. unless_bad bad (script_inputs tables line said)) made) text
+    (subst (λ those. CompilesFolders (files_of lines) those (λ tables. unless_bad bad (script_inputs tables line script)) made) later
+    (subst (λ those. CompilesFolders those folders (λ tables. unless_bad bad (script_inputs tables line script)) made) its had)))))
+  where
+    by_lines : CompilesFolders (files_of (lines_of bytes)) (later_folders (lines_of bytes)) (inputs_in (lines_of bytes)) made → Compiles bytes made
+    by_lines found = record { folders = record { first = found.first; is = found.is; later = found.later; are = found.are }; same = found.same }

@@ -1,5 +1,5 @@
 -- What is printed depends on no more than one byte past the most that a bundle has.
-use Rattle.std.proofs.Common.{◌≡◌, ℕ, ◌<◌, ◌≤◌, true, false, List, length, take, nat_le, length-take, arith, refl, sym, ap, ◌⊎◌, ⊎_elim, subst, inl, inr, ◌∙◌, Option, Some, None, codes, []}
+use Rattle.std.proofs.Common.{◌≡◌, ℕ, ◌<◌, ◌≤◌, true, false, List, Result, length, take, nat_le, length-take, arith, refl, sym, ap, ◌⊎◌, ⊎_elim, subst, inl, inr, ◌∙◌, Option, Some, None, codes, []}
 use Rattle.std.specs.Prelude.{IfSome}
 use Rattle.std.specs.Io.KnownBytes.{Appends}
 use Rattle.std.proofs.lemmas.Bool.{cases_lt}
@@ -7,10 +7,11 @@ use Rattle.std.proofs.lemmas.Bool.Decides.{nat_tests}
 use Rattle.std.proofs.lemmas.List.{take_all}
 use Rattle.up_conf.specs.declared.folder.File.{File}
 use Rattle.up_print.specs.declared.printed.Printed.{Printed}
-use Rattle.up_script.specs.Bundle.{files_of, later_folders, lines_of, bad_line, script_line, script_text}
-use Rattle.up_script.specs.Statements.{script_inputs}
+use Rattle.up_script.specs.Bundle.{files_of, later_folders, lines_of}
 use Rattle.up_print.specs.Folders.{prints, unusable, compile_outcome}
-use Rattle.up_replay.specs.Replay.{bundle_printed, inputs_in, unless_bad, Folders, Prints, PrintsFolders, Replayed, IsCutOff, Replays}
+use Rattle.up_replay.specs.declared.bundle.BundleRun.{BundleRun}
+use Rattle.up_replay.specs.Compiling.{Compiles, Folders}
+use Rattle.up_replay.specs.Replay.{bundle_printed, output_by, play_run, Prints, Replayed, IsCutOff, Replays}
 use Rattle.up_replay.proofs.Compiling.{some_made, some_are}
 use Rattle.up_print.specs.Writing.{IsBegun}
 use Rattle.up_print.proofs.Reports.{any_report}
@@ -57,26 +58,12 @@ prints_long base name bytes made more is = record { folders = any_folders (lines
 few : (n : ℕ) → n ≤ 67108864 → nat_le n 67108864 ≡ true
 few n less = grind (arith, nat_tests)
 
--- what is printed for a bundle's lines
-by_lines : (base : List (List ℕ × List ℕ)) (name bytes : List ℕ) (made : Printed) → length bytes ≤ 67108864
-    → PrintsFolders base name (files_of (lines_of bytes)) (later_folders (lines_of bytes)) (inputs_in (lines_of bytes)) made → Prints base name bytes made
+-- what is printed for a bundle that is compiled
+pub prints_run : (base : List (List ℕ × List ℕ)) (name bytes : List ℕ) (run : Result BundleRun Printed) (made : Printed) → length bytes ≤ 67108864
+    → Compiles bytes run → made ≡ output_by (play_run base name) run → Prints base name bytes made
 unfolding bundle_printed
-by_lines base name bytes made less had =
-    record { folders = record { first = had.first; is = had.is; later = had.later; are = had.are }; same = had.same ∙ sym (rw (few _ less) refl) }
-
--- what is printed for a bundle that was read
-pub prints_read : (base : List (List ℕ × List ℕ)) (name bytes : List ℕ) (files : List File) (folders : List (List File)) (bad : Option ℕ) (line : ℕ) (script : List ℕ) (made : Printed) → length bytes ≤ 67108864
-    → files ≡ files_of (lines_of bytes) → folders ≡ later_folders (lines_of bytes) → bad ≡ bad_line 1 (lines_of bytes) → line ≡ script_line 1 (lines_of bytes)
-    → script ≡ script_text (lines_of bytes) → PrintsFolders base name files folders (λ tables. unless_bad bad (script_inputs tables line script)) made → Prints base name bytes made
-unfolding inputs_in
-prints_read base name bytes files folders bad line script made less its later wrong number text had =
-    let lines = lines_of bytes in
-    by_lines base name bytes made less
-    (subst (λ found. PrintsFolders base name (files_of lines) (later_folders lines) (λ tables. unless_bad found (script_inputs tables (script_line 1 lines) (script_text lines))) made) wrong
-    (subst (λ n. PrintsFolders base name (files_of lines) (later_folders lines) (λ tables. unless_bad bad (script_inputs tables n (script_text lines))) made) number
-    (subst (λ said. PrintsFolders base name (files_of lines) (later_folders lines) (λ tables. unless_bad bad (script_inputs tables line said)) made) text
-    (subst (λ those. PrintsFolders base name (files_of lines) those (λ tables. unless_bad bad (script_inputs tables line script)) made) later
-    (subst (λ those. PrintsFolders base name those folders (λ tables. unless_bad bad (script_inputs tables line script)) made) its had)))))
+prints_run base name bytes run made less had is =
+    record { folders = had.folders; same = is ∙ ap (output_by (play_run base name)) had.same ∙ sym (rw (few _ less) refl) }
 
 replayed_whole : (all bytes : List ℕ) (made : Printed) (status : ExitStatus) (old new : Option (List ℕ)) → bytes ≡ take 67108865 all → Prints [] (codes "-") bytes made
     → (status_number status < 3 → (status ≡ made.status) × Appends old new made.text) → status_number status < 3 → Replayed all (status_number status) old new

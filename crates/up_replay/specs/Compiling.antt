@@ -1,5 +1,5 @@
 -- What folders are compiled to, one after another.
-use Rattle.std.specs.Prelude.{◌≡◌, List, [], ◌∷◌, ◌++◌, Option, Result, Ok, Err}
+use Rattle.std.specs.Prelude.{◌≡◌, ℕ, List, [], ◌∷◌, ◌++◌, Option, None, Some, Result, Ok, Err}
 use Rattle.up_conf.specs.declared.folder.File.{File}
 use Rattle.up_conf.specs.declared.job.JobDef.{JobDef}
 use Rattle.up_conf.specs.declared.report.Fault.{Fault}
@@ -8,6 +8,10 @@ use Rattle.up_model.specs.declared.exit_status.ExitStatus.{ExitStatus}
 use Rattle.up_model.specs.declared.exit_status.ExitStatus.TheVariants.{Done, Failed, Usage, Unusable, Memory}
 use Rattle.up_print.specs.declared.printed.Printed.{Printed}
 use Rattle.up_print.specs.Folders.{faults_output, prints, table_of, IsCompiled}
+use Rattle.up_model.specs.declared.input.Input.{Input}
+use Rattle.up_script.specs.Bundle.{lines_of, files_of, later_folders, bad_line, script_line, script_text}
+use Rattle.up_script.specs.Statements.{script_inputs}
+use Rattle.up_replay.specs.declared.bundle.BundleRun.{BundleRun}
 use Rattle.up_replay.specs.declared.compiled.Compiled.{Compiled}
 
 -- each of these folders is compiled, with some report of its faults
@@ -73,3 +77,61 @@ pub record IsRefused (folders : List (List File)) (printed : Printed) : Type 0 w
 abbrev pub ComesOf : List (List File) → Result Compiled Printed → Type 0
 ComesOf folders (Ok found) = HasTables folders found
 ComesOf folders (Err printed) = IsRefused folders printed
+
+-- the inputs of a bundle, or the number of its first bad line
+abbrev pub unless_bad : Option ℕ → Result (List Input) ℕ → Result (List Input) ℕ
+unless_bad None read = read
+unless_bad (Some line) read = Err line
+
+-- the inputs of a bundle by its lines, if its later folders have these tables
+unfoldable pub inputs_in : List (List ℕ) → List (List JobDef) → Result (List Input) ℕ
+inputs_in lines tables = unless_bad (bad_line 1 lines) (script_inputs tables (script_line 1 lines) (script_text lines))
+
+-- what is to be run of folders that are compiled to this, the first and the later ones, with the inputs of a script by the tables of the
+-- later ones; or what the first refusal prints
+abbrev pub run_of : Result (List JobDef × List Fault) CompileError → Result (List (List JobDef) × List Fault) CompileError
+    → (List (List JobDef) → Result (List Input) ℕ) → Result BundleRun Printed
+run_of (Err error) later read = Err (faults_output (Err error))
+run_of (Ok first) (Err error) read = Err (faults_output (Err error))
+run_of (Ok first) (Ok later) read = Ok (record {
+  faults = faults_output (Ok (first.0, first.1 ++ later.1));
+  table = first.0;
+  read = read later.0;
+})
+
+-- the same once the first folder has these faults and jobs
+abbrev pub run_after : Printed → List JobDef → Result (List (List JobDef) × List Fault) CompileError
+    → (List (List JobDef) → Result (List Input) ℕ) → Result BundleRun Printed
+run_after faults jobs (Err error) read = Err (faults_output (Err error))
+run_after faults jobs (Ok later) read = Ok (record {
+  faults = joined faults (faults_output (Ok ([], later.1)));
+  table = jobs;
+  read = read later.0;
+})
+
+pub record CompilesLater (folders : List (List File)) (faults : Printed) (jobs : List JobDef)
+    (read : List (List JobDef) → Result (List Input) ℕ) (made : Result BundleRun Printed) : Type 0 where
+  pub later : List (Result (List JobDef × List Fault) CompileError)
+  pub are : AreCompiled folders later
+  pub same : made ≡ run_after faults jobs (all_compiled later) read
+
+-- folders are compiled, with some report of each one's faults
+pub record CompilesFolders (files : List File) (folders : List (List File)) (read : List (List JobDef) → Result (List Input) ℕ)
+    (made : Result BundleRun Printed) : Type 0 where
+  pub first : Result (List JobDef × List Fault) CompileError
+  pub is : IsCompiled files first
+  pub later : List (Result (List JobDef × List Fault) CompileError)
+  pub are : AreCompiled folders later
+  pub same : made ≡ run_of first (all_compiled later) read
+
+-- the folders of a bundle's lines, compiled with some report of the faults of each
+pub record Folders (lines : List (List ℕ)) : Type 0 where
+  pub first : Result (List JobDef × List Fault) CompileError
+  pub is : IsCompiled (files_of lines) first
+  pub later : List (Result (List JobDef × List Fault) CompileError)
+  pub are : AreCompiled (later_folders lines) later
+
+-- the bytes of a bundle are compiled
+pub record Compiles (bytes : List ℕ) (made : Result BundleRun Printed) : Type 0 where
+  pub folders : Folders (lines_of bytes)
+  pub same : made ≡ run_of folders.first (all_compiled folders.later) (inputs_in (lines_of bytes))

@@ -1,5 +1,5 @@
 -- What a replay prints, and its status.
-use Rattle.std.specs.Prelude.{◌≡◌, ◌⊎◌, ℕ, ◌<◌, nat_le, List, [], ◌++◌, length, Option, None, Some, Result, Ok, Err, if◌then◌else◌, codes}
+use Rattle.std.specs.Prelude.{◌≡◌, ◌⊎◌, ℕ, ◌<◌, nat_le, List, [], ◌++◌, length, Option, Result, Ok, Err, if◌then◌else◌, codes}
 use Rattle.up_script.specs.declared.bundle.TheConstants.{MAX_BUNDLE}
 use Rattle.std.specs.List.{flat_map}
 use Rattle.std.specs.Io.KnownBytes.{Appends}
@@ -14,21 +14,12 @@ use Rattle.up_model.specs.Answers.{answers}
 use Rattle.up_model.specs.ExitStatuses.{status_number}
 use Rattle.up_model.specs.declared.exit_status.ExitStatus.TheVariants.{Usage, Unusable}
 use Rattle.up_print.specs.declared.printed.Printed.{Printed}
-use Rattle.up_script.specs.Bundle.{lines_of, files_of, later_folders, bad_line, script_line, script_text}
-use Rattle.up_print.specs.Folders.{unusable, prints, compile_outcome, faults_output, IsCompiled}
+use Rattle.up_script.specs.Bundle.{lines_of}
+use Rattle.up_print.specs.Folders.{unusable, prints, compile_outcome, faults_output}
 use Rattle.up_print.specs.Lines.{bad_statement_line, step_lines}
-use Rattle.up_script.specs.Statements.{script_inputs}
 use Rattle.up_print.specs.Writing.{IsBegun}
-use Rattle.up_replay.specs.Compiling.{all_compiled, joined, AreCompiled}
-
--- the inputs of a bundle, or the number of its first bad line
-abbrev pub unless_bad : Option ℕ → Result (List Input) ℕ → Result (List Input) ℕ
-unless_bad None read = read
-unless_bad (Some line) read = Err line
-
--- the inputs of a bundle by its lines, if its later folders have these tables
-unfoldable pub inputs_in : List (List ℕ) → List (List JobDef) → Result (List Input) ℕ
-inputs_in lines tables = unless_bad (bad_line 1 lines) (script_inputs tables (script_line 1 lines) (script_text lines))
+use Rattle.up_replay.specs.declared.bundle.BundleRun.{BundleRun}
+use Rattle.up_replay.specs.Compiling.{all_compiled, inputs_in, run_of, Folders}
 
 -- what is printed of a folder's faults, and after them of a run of its jobs with a base environment, or of the script's first bad line
 abbrev pub play_output : List (List ℕ × List ℕ) → List ℕ → List JobDef → Printed → Result (List Input) ℕ → Printed
@@ -49,50 +40,21 @@ pub record Plays (files : List File) (base : List (List ℕ × List ℕ)) (name 
   pub is : IsReport files report
   pub same : made ≡ replay_output base name (compile_outcome report files) read
 
--- what is printed for folders that are compiled to this, the first and the later ones, and for the inputs of a script by the tables of
--- the later ones: the first refusal alone, or the faults of all and after them a run of the first folder's jobs
-abbrev pub folders_output : (base : List (List ℕ × List ℕ)) → (name : List ℕ) → Result (List JobDef × List Fault) CompileError → Result (List (List JobDef) × List Fault) CompileError
-    → (List (List JobDef) → Result (List Input) ℕ) → Printed
-folders_output base name (Err error) later read = faults_output (Err error)
-folders_output base name (Ok first) (Err error) read = faults_output (Err error)
-folders_output base name (Ok first) (Ok later) read = play_output base name first.0
-    (faults_output (Ok (first.0, first.1 ++ later.1))) (read later.0)
+-- what is printed of a bundle that is compiled, with a base environment
+abbrev pub play_run : List (List ℕ × List ℕ) → List ℕ → BundleRun → Printed
+play_run base name run = play_output base name run.table run.faults run.read
 
--- the same, with some report of each folder's faults
-pub record PrintsFolders (base : List (List ℕ × List ℕ)) (name : List ℕ) (files : List File) (folders : List (List File))
-    (read : List (List JobDef) → Result (List Input) ℕ) (made : Printed) : Type 0 where
-  pub first : Result (List JobDef × List Fault) CompileError
-  pub is : IsCompiled files first
-  pub later : List (Result (List JobDef × List Fault) CompileError)
-  pub are : AreCompiled folders later
-  pub same : made ≡ folders_output base name first (all_compiled later) read
-
--- what is printed once the first folder has these faults and jobs, when the later ones are compiled to this
-abbrev pub after_first : (base : List (List ℕ × List ℕ)) → (name : List ℕ) → Printed → List JobDef → Result (List (List JobDef) × List Fault) CompileError
-    → (List (List JobDef) → Result (List Input) ℕ) → Printed
-after_first base name faults jobs (Err error) read = faults_output (Err error)
-after_first base name faults jobs (Ok later) read = play_output base name jobs (joined faults (faults_output (Ok ([], later.1)))) (read later.0)
-
--- the same, with some report of each later folder's faults
-pub record PlaysFirst (base : List (List ℕ × List ℕ)) (name : List ℕ) (folders : List (List File)) (faults : Printed) (jobs : List JobDef)
-    (read : List (List JobDef) → Result (List Input) ℕ) (made : Printed) : Type 0 where
-  pub later : List (Result (List JobDef × List Fault) CompileError)
-  pub are : AreCompiled folders later
-  pub same : made ≡ after_first base name faults jobs (all_compiled later) read
-
--- the folders of a bundle's lines, compiled with some report of the faults of each
-pub record Folders (lines : List (List ℕ)) : Type 0 where
-  pub first : Result (List JobDef × List Fault) CompileError
-  pub is : IsCompiled (files_of lines) first
-  pub later : List (Result (List JobDef × List Fault) CompileError)
-  pub are : AreCompiled (later_folders lines) later
+-- the same, or what the refusal of a folder prints
+abbrev pub output_by : (shown : BundleRun → Printed) → Result BundleRun Printed → Printed
+output_by shown (Ok run) = shown run
+output_by shown (Err printed) = printed
 
 -- what is printed for the bytes of a bundle with this name, which has 64 MiB at most, with a base environment, and with its folders
 -- compiled to these
 unfoldable pub bundle_printed : (base : List (List ℕ × List ℕ)) → (name bytes : List ℕ) → Folders (lines_of bytes) → Printed
 bundle_printed base name bytes folders =
-    if nat_le (length bytes) MAX_BUNDLE then folders_output base name folders.first (all_compiled folders.later)
-    (inputs_in (lines_of bytes))
+    if nat_le (length bytes) MAX_BUNDLE then output_by (play_run base name)
+    (run_of folders.first (all_compiled folders.later) (inputs_in (lines_of bytes)))
     else prints (unusable name) Unusable
 
 -- what is printed for a bundle with this name, with a base environment

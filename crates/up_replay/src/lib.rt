@@ -1,9 +1,11 @@
 //! What is printed for a folder of job files, and for a script of what happens to its jobs.
 #![tactic(auto)]
 
+mod bundle;
 mod compiled;
 pub mod replay;
 mod reread;
 mod running;
 
-pub use replay::{play_bundle, render_bundle, render_folder};
+pub use bundle::{BundleRun, compile_bundle};
+pub use replay::{play_bundle, play_run, render_bundle, render_folder};

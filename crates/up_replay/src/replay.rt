@@ -1,5 +1,5 @@
 //! Replays a bundle.
-ghost use Rattle.std.specs.Prelude.{◌≡◌, ◌⊎◌, ◌<◌, ◌+◌, [], ◌++◌, IfOk, IfSome, OnOk, length, take, codes};
+ghost use Rattle.std.specs.Prelude.{◌≡◌, ◌⊎◌, ◌≤◌, ◌+◌, [], ◌++◌, IfOk, IfSome, OnOk, length, take, codes};
 ghost use Rattle.std.specs.List.{flat_map};
 ghost use Rattle.std.specs.Io.KnownBytes.{Appends};
 ghost use Rattle.up_model.specs.Configuration.{started_with};
@@ -9,16 +9,13 @@ ghost use Rattle.up_model.specs.declared.exit_status.ExitStatus.TheVariants.{Mem
 ghost use Rattle.up_print.specs.Folders.{unusable};
 ghost use Rattle.up_print.specs.Lines.{step_lines};
 ghost use Rattle.up_print.specs.Writing.{IsBegun};
-ghost use Rattle.up_script.specs.Statements.{script_inputs};
 ghost use Rattle.up_script.specs.declared.bundle.TheConstants.{MAX_BUNDLE};
-ghost use Rattle.up_replay.specs.Compiling.{joined};
-ghost use Rattle.up_replay.specs.Replay.{play_output, unless_bad, Plays, PlaysFirst, Prints, PrintsFolders, Replays};
+ghost use Rattle.up_replay.specs.Replay.{play_output, play_run, Plays, Prints, Replays};
 
-use crate::compiled::{Compiled, compile, compile_all, joined};
+use crate::bundle::{BundleRun, compile_bundle};
 use crate::reread::reread;
 use crate::running::push_run;
 use std::alloc::{AllocError, Global};
-use std::collections::VecDeque;
 use std::io;
 use std::io::{ErrorKind, Read, Write};
 use up_conf::Folder;
@@ -26,25 +23,9 @@ use up_image::Table;
 use up_model::ExitStatus;
 use up_print::check::faults_and_compile;
 use up_print::{Printed, cannot_use, push_bad_step, write_printed};
+use up_script::ScriptInputs;
 use up_script::bundle::MAX_BUNDLE;
-use up_script::{Bundle, ScriptInputs, read_bundle, read_inputs_with};
 use up_text::{Env, Items};
-
-// The inputs of a bundle, or its first bad line. Its loads take the tables.
-fn inputs_in(
-    alloc: Global,
-    tables: &mut VecDeque<Table>,
-    bundle: &Bundle<'_>,
-) -> Result<Result<ScriptInputs, u32>, AllocError>
-    requires { bundle.now.line + length bundle.now.script.now < 4294967295 }
-    ensures { IfOk result (λ read. read ≡ unless_bad bundle.now.bad
-        (script_inputs tables.old.items bundle.now.line bundle.now.script.now)) }
-{
-    match bundle.bad {
-        Some(line) => Ok(Err(line)),
-        None => read_inputs_with(alloc, tables, bundle.script, bundle.line),
-    }
-}
 
 // What a run of a table's jobs gives.
 fn push_all(
@@ -110,84 +91,39 @@ pub fn render_folder(
     }
 }
 
-// What is printed once all folders are compiled.
-fn play_all(
-    alloc: Global,
-    bundle: &Bundle<'_>,
-    faults: Printed,
-    table: Table,
-    later: Compiled,
-    base: Env,
-    name: &str,
-) -> Result<Printed, AllocError>
-    requires { bundle.now.line + length bundle.now.script.now < 4294967295 }
-    ensures { IfOk result (λ made. made ≡ play_output base name.now table (joined faults later.faults)
-        (unless_bad bundle.now.bad (script_inputs later.tables.items bundle.now.line bundle.now.script.now))) }
+/// What is printed for a bundle with this name that is compiled. Each process gets the base environment.
+pub fn play_run(alloc: Global, run: BundleRun, base: Env, name: &str) -> Result<Printed, AllocError>
+    ensures { IfOk result (λ made. made ≡ play_run base name.now run) }
 {
-    let Compiled {
-        faults: more,
-        mut tables,
-    } = later;
-    let faults = joined(faults, &more)?;
-    let read = inputs_in(alloc, &mut tables, bundle)?;
-    drop(tables);
+    let BundleRun {
+        faults,
+        table,
+        read,
+    } = run;
     play(alloc, faults, table, base, name, read)
 }
 
-// What is printed once the first folder is compiled.
-#[tactic(auto, using(crate::proofs::Compiling::first_plays, crate::proofs::Compiling::first_refused))]
-fn play_first(
-    alloc: Global,
-    bundle: &Bundle<'_>,
-    faults: Printed,
-    table: Table,
-    base: Env,
-    name: &str,
-) -> Result<Printed, AllocError>
-    requires { bundle.now.line + length bundle.now.script.now < 4294967295 }
-    ensures { IfOk result (PlaysFirst base name.now bundle.now.later faults table (λ tables. unless_bad bundle.now.bad
-        (script_inputs tables bundle.now.line bundle.now.script.now))) }
+// What is printed for the bytes of a bundle that isn't too long.
+#[tactic(auto, using(crate::proofs::Limits::prints_run))]
+fn play_bytes(alloc: Global, bytes: &[u8], base: Env, name: &str) -> Result<Printed, AllocError>
+    requires { length bytes.now ≤ MAX_BUNDLE }
+    ensures { IfOk result (Prints base name.now bytes.now) }
 {
-    match compile_all(alloc, bundle.later.as_slice()) {
-        Ok(Ok(later)) => play_all(alloc, bundle, faults, table, later, base, name),
+    match compile_bundle(alloc, bytes) {
+        Ok(Ok(run)) => play_run(alloc, run, base, name),
         Ok(Err(refusal)) => {
             drop(base);
-            drop(table);
-            drop(faults);
             Ok(refusal)
         }
         Err(error) => {
             drop(base);
-            drop(table);
-            drop(faults);
             Err(error)
         }
     }
 }
 
-// What is printed for a bundle that was read.
-fn render_read(
-    alloc: Global,
-    bundle: &Bundle<'_>,
-    base: Env,
-    name: &str,
-) -> Result<Printed, AllocError>
-    requires { bundle.now.line + length bundle.now.script.now < 4294967295 }
-    ensures { IfOk result (PrintsFolders base name.now bundle.now.folder bundle.now.later (λ tables. unless_bad bundle.now.bad
-        (script_inputs tables bundle.now.line bundle.now.script.now))) }
-{
-    let (faults, table) = compile(alloc, &bundle.folder)?;
-    match table {
-        Some(table) => play_first(alloc, bundle, faults, table, base, name),
-        None => {
-            drop(base);
-            Ok(faults)
-        }
-    }
-}
-
 /// What is printed for the bytes of a bundle with this name. Each process gets the base environment.
-#[tactic(auto, using(up_script::proofs::Sizes::script_small, crate::proofs::Limits::prints_long, crate::proofs::Limits::prints_read))]
+#[tactic(auto, using(crate::proofs::Limits::prints_long))]
 pub fn play_bundle(
     alloc: Global,
     bytes: &[u8],
@@ -200,8 +136,7 @@ pub fn play_bundle(
         drop(base);
         return cannot_use(alloc, name);
     }
-    let bundle = read_bundle(alloc, bytes)?;
-    render_read(alloc, &bundle, base, name)
+    play_bytes(alloc, bytes, base, name)
 }
 
 /// What is printed for the bytes of a bundle on standard input.

@@ -4,7 +4,7 @@ use std::test::Fail;
 use up_command::{Invocation, parse_args, print_refusal};
 use up_run::{ReportOptions, Rounds};
 use up_text::{Env, Text};
-use up_tools::Kind;
+use up_tools::{Kind, View};
 
 // What a command line gives: what it asks for, or the status or the text of its refusal.
 enum Wanted {
@@ -36,6 +36,20 @@ enum Wanted {
         one: Option<(&'static str, &'static str)>,
         count: usize,
     },
+    ReplayFile {
+        bundle: &'static str,
+        // How many variables there are.
+        count: usize,
+    },
+    View {
+        view: View,
+        source: &'static str,
+        log: &'static str,
+    },
+    ViewFile {
+        view: View,
+        bundle: &'static str,
+    },
     Run {
         source: &'static str,
         socket: &'static str,
@@ -48,7 +62,7 @@ enum Wanted {
 
 type Case = (&'static [&'static str], Wanted);
 
-static ASKED: [Case; 15] = [
+static ASKED: [Case; 18] = [
     (&["initd"], Wanted::Bundle),
     (
         &["initd", "check", "jobs"],
@@ -105,6 +119,28 @@ static ASKED: [Case; 15] = [
             script: "b",
             one: Some(("B", "x=y")),
             count: 2,
+        },
+    ),
+    (
+        &["initd", "replay", "--bundle", "a", "--env", "A=1"],
+        Wanted::ReplayFile {
+            bundle: "a",
+            count: 1,
+        },
+    ),
+    (
+        &["initd", "chart", "jobs", "a record"],
+        Wanted::View {
+            view: View::Chart,
+            source: "jobs",
+            log: "a record",
+        },
+    ),
+    (
+        &["initd", "blame", "a record", "--bundle"],
+        Wanted::ViewFile {
+            view: View::Blame,
+            bundle: "a record",
         },
     ),
     (
@@ -228,7 +264,7 @@ static ASKED: [Case; 15] = [
     ),
 ];
 
-static REFUSED: [Case; 19] = [
+static REFUSED: [Case; 22] = [
     (&["initd", "check"], Wanted::Status(2)),
     (&["initd", "check", "a", "b"], Wanted::Status(2)),
     (&["initd", "check", "a", "--against"], Wanted::Status(2)),
@@ -238,6 +274,12 @@ static REFUSED: [Case; 19] = [
     ),
     (&["initd", "replay", "a"], Wanted::Status(2)),
     (&["initd", "replay", "a", "b", "c"], Wanted::Status(2)),
+    (
+        &["initd", "replay", "--bundle", "a", "b"],
+        Wanted::Status(2),
+    ),
+    (&["initd", "chart", "a"], Wanted::Status(2)),
+    (&["initd", "blame", "a", "b", "--bundle"], Wanted::Status(2)),
     (
         &["initd", "replay", "a", "b", "--env", "A"],
         Wanted::Status(2),
@@ -325,6 +367,20 @@ fn is_wanted(asked: &Invocation, wanted: &Wanted) -> bool {
                 count,
             },
         ) => *source == *s && *script == *t && base.len() == *count && has_variable(base, one),
+        (Invocation::ReplayFile { bundle, base }, Wanted::ReplayFile { bundle: b, count }) => {
+            *bundle == *b && base.len() == *count
+        }
+        (
+            Invocation::View { view, source, log },
+            Wanted::View {
+                view: v,
+                source: s,
+                log: l,
+            },
+        ) => *view == *v && *source == *s && *log == *l,
+        (Invocation::ViewFile { view, bundle }, Wanted::ViewFile { view: v, bundle: b }) => {
+            *view == *v && *bundle == *b
+        }
         (
             Invocation::Run {
                 source,

@@ -1,4 +1,4 @@
--- No statement of a script without tables gives a load.
+-- No statement of a script without tables gives a load of jobs.
 use Rattle.std.proofs.Common.{◌≡◌, ℕ, ◌+◌, ◌-◌, zero, suc, Bool, true, false, List, [], ◌∷◌, ◌++◌, Option, None, Some, option_map, option_and_then, Result, Ok, Err, replicate, bytes_eq, codes, if◌then◌else◌, take, drop, refl, sym, subst}
 use Rattle.std.specs.List.{AllByRecursion, prefix_len, concat}
 use Rattle.up_text.specs.Comments.{without_comments}
@@ -8,19 +8,20 @@ use Rattle.up_conf.specs.declared.job.JobDef.{JobDef}
 use Rattle.up_stanza.specs.declared.process.Process.{Process}
 use Rattle.up_model.specs.declared.input.Input.{Input}
 use Rattle.up_model.specs.declared.input.Input.TheVariants as input
-use Rattle.up_model.specs.Loads.{is_load}
+use Rattle.up_model.specs.declared.loaded.Loaded.{Loaded}
+use Rattle.up_model.specs.declared.loaded.Loaded.TheVariants as loaded
 use Rattle.up_model.specs.declared.process.How.{How}
 use Rattle.up_model.specs.declared.request.Request.{Request}
 use Rattle.up_model.specs.declared.who.Who.{Who}
 use Rattle.up_model.specs.Requests.{command_named}
 use Rattle.up_script.specs.Bundle.{lines_of}
 use Rattle.up_script.specs.Requests.{request_of, request_by}
-use Rattle.up_script.specs.Script.{who_named, process_of, how_of, emit_of, spawned_of, refused_of, ended_of, clock_of, load_of, input_of, turns_of, inputs_of, left_after}
+use Rattle.up_script.specs.Script.{who_named, process_of, how_of, emit_of, spawned_of, refused_of, ended_of, clock_of, loaded_of, load_of, input_of, turns_of, inputs_of, left_by_load, left_after, loads_jobs}
 use Rattle.up_script.specs.Statements.{is_text, texts_in, step_inputs, begins_on, step_then, inputs_from, unless_left, lines_inputs, script_inputs}
 use Rattle.up_script.specs.Variables.{vars_of, name_in}
 
 abbrev pub IsLoadless : Input → Type 0
-IsLoadless given = is_load given ≡ false
+IsLoadless given = loads_jobs given ≡ false
 
 -- what is read of a line or of several, if anything is, has none
 abbrev One : Option Input → Type 0
@@ -91,8 +92,25 @@ ended (job ∷ instance ∷ name ∷ kind ∷ text ∷ []) =
     (λ who. one-then (λ (its : Process). option_map (input.Ended who its) end) (λ its. one-map (input.Ended who its) (λ how. refl) end) (process_of name)) (who_named job instance)
 ended (a ∷ b ∷ c ∷ d ∷ e ∷ f ∷ words) = tt
 
+loaded-so : (id : ℕ) (words : List (List ℕ)) → One (option_map (input.Load id) (loaded_of [] words))
+loaded-so id [] = tt
+loaded-so id (word ∷ []) = by_word (bytes_eq word (codes "unread"))
+  where
+    by_word : (b : Bool) → One (option_map (input.Load id) (if b then Some loaded.Unread else None))
+    by_word true = refl
+    by_word false = tt
+loaded-so id (word ∷ code ∷ []) = by_word (bytes_eq word (codes "refused")) (number_in 0 255 code)
+  where
+    by_word : (b : Bool) (o : Option ℕ) → One (option_map (input.Load id) (if b then option_map loaded.Refused o else None))
+    by_word true None = tt
+    by_word true (Some number) = refl
+    by_word false o = tt
+loaded-so id (a ∷ b ∷ c ∷ words) = tt
+
 load : (words : List (List ℕ)) → One (load_of [] words)
-load words = tt
+load [] = tt
+load (id ∷ words) = one-then (λ (number : ℕ). option_map (input.Load number) (loaded_of [] words))
+    (λ number. loaded-so number words) (number_in 0 18446744073709551615 id)
 
 clock : (words : List (List ℕ)) → One (clock_of words)
 clock [] = tt
@@ -165,8 +183,13 @@ none-left (Some (kind ∷ words)) = by_kind (bytes_eq kind (codes "load"))
     none : List (List JobDef)
     none = []
 
-    by_kind : (b : Bool) → (if b then drop 1 none else none) ≡ []
-    by_kind true = refl
+    by_load : (words : List (List ℕ)) → left_by_load none words ≡ []
+    by_load [] = refl
+    by_load (id ∷ []) = refl
+    by_load (id ∷ word ∷ words) = refl
+
+    by_kind : (b : Bool) → (if b then left_by_load none words else none) ≡ []
+    by_kind true = by_load words
     by_kind false = refl
 
 from : (line : ℕ) (steps : List (List Lexeme)) → All (inputs_from [] line steps)

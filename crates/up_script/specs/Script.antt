@@ -1,9 +1,10 @@
 -- What the lines of a script say.
-use Rattle.std.specs.Prelude.{ℕ, List, [], ◌∷◌, drop, replicate, Option, None, Some, option_map, option_and_then, if◌then◌else◌, codes}
+use Rattle.std.specs.Prelude.{ℕ, Bool, true, false, List, [], ◌∷◌, drop, replicate, Option, None, Some, option_map, option_and_then, slice_get, if◌then◌else◌, codes}
 use Rattle.std.specs.Str.{bytes_eq}
 use Rattle.up_text.specs.Names.{is_name}
 use Rattle.up_model.specs.declared.input.Input.{Input}
 use Rattle.up_model.specs.declared.input.Input.TheVariants as input
+use Rattle.up_model.specs.declared.loaded.Loaded.{Loaded}
 use Rattle.up_model.specs.declared.loaded.Loaded.TheVariants as loaded
 use Rattle.up_conf.specs.declared.job.JobDef.{JobDef}
 use Rattle.up_stanza.specs.declared.process.Process.{Process}
@@ -69,11 +70,20 @@ abbrev pub clock_of : List (List ℕ) → Option Input
 clock_of (reading ∷ []) = option_map input.Clock (number_in 0 18446744073709551615 reading)
 clock_of words = None
 
--- ID, for a load of the first of these tables; there is none without a table
+-- what a load loads: the first of these tables, if there is one, or nothing, since it was refused or not read
+abbrev pub loaded_of : List (List JobDef) → List (List ℕ) → Option Loaded
+loaded_of tables [] = option_map loaded.Files (slice_get tables 0)
+loaded_of tables (word ∷ []) = if bytes_eq word (codes "unread") then Some loaded.Unread else None
+loaded_of tables (word ∷ code ∷ []) =
+    if bytes_eq word (codes "refused") then option_map loaded.Refused (number_in 0 255 code) else None
+loaded_of tables words = None
+
+-- ID, or ID refused CODE, or ID unread
 abbrev pub load_of : List (List JobDef) → List (List ℕ) → Option Input
-load_of (table ∷ tables) (id ∷ []) = option_map (λ number. input.Load number (loaded.Files table))
+load_of tables [] = None
+load_of tables (id ∷ words) =
+    option_and_then (λ number. option_map (input.Load number) (loaded_of tables words))
     (number_in 0 18446744073709551615 id)
-load_of tables words = None
 
 -- the one input of a line by its first word and the others, where these tables are left for loads
 abbrev pub input_of : List (List JobDef) → List ℕ → List (List ℕ) → Option Input
@@ -99,12 +109,32 @@ inputs_of tables [] = Some []
 inputs_of tables (kind ∷ words) = if bytes_eq kind (codes "turn") then turns_of words else option_map
     (λ one. one ∷ []) (input_of tables kind words)
 
--- the tables that a line leaves by its first word: a load takes the first
-abbrev pub left_by : List (List JobDef) → List ℕ → List (List JobDef)
-left_by tables kind = if bytes_eq kind (codes "load") then drop 1 tables else tables
+-- whether jobs were loaded
+abbrev pub has_jobs : Loaded → Bool
+has_jobs (loaded.Files jobs) = true
+has_jobs (loaded.Refused code) = false
+has_jobs loaded.Unread = false
+
+-- whether an input loads jobs, as only a script with tables can
+abbrev pub loads_jobs : Input → Bool
+loads_jobs (input.Load id its) = has_jobs its
+loads_jobs given = false
+
+-- the tables that a load leaves: it takes the first if nothing is said of what it loads
+abbrev pub left_by_loaded : List (List JobDef) → List (List ℕ) → List (List JobDef)
+left_by_loaded tables [] = drop 1 tables
+left_by_loaded tables (word ∷ words) = tables
+
+abbrev pub left_by_load : List (List JobDef) → List (List ℕ) → List (List JobDef)
+left_by_load tables [] = tables
+left_by_load tables (id ∷ words) = left_by_loaded tables words
+
+-- the tables that a line leaves by its first word and the others
+abbrev pub left_by : List (List JobDef) → List ℕ → List (List ℕ) → List (List JobDef)
+left_by tables kind words = if bytes_eq kind (codes "load") then left_by_load tables words else tables
 
 -- the tables that a line leaves by its words, if they are whole
 abbrev pub left_after : List (List JobDef) → Option (List (List ℕ)) → List (List JobDef)
 left_after tables None = tables
 left_after tables (Some []) = tables
-left_after tables (Some (kind ∷ words)) = left_by tables kind
+left_after tables (Some (kind ∷ words)) = left_by tables kind words

@@ -5,6 +5,8 @@ use Rattle.std.specs.Fmt.{decimal}
 use Rattle.up_stanza.specs.declared.process.Process.{Process}
 use Rattle.up_model.specs.declared.input.Input.{Input}
 use Rattle.up_model.specs.declared.input.Input.TheVariants as input
+use Rattle.up_model.specs.declared.loaded.Loaded.{Loaded}
+use Rattle.up_model.specs.declared.loaded.Loaded.TheVariants as loaded
 use Rattle.up_model.specs.declared.process.How.{How}
 use Rattle.up_model.specs.declared.process.How.TheVariants as how
 use Rattle.up_model.specs.declared.request.Request.{Request}
@@ -51,6 +53,12 @@ abbrev pub end_tokens : How → List ℕ
 end_tokens (how.Exit code) = codes " exit " ++ decimal code
 end_tokens (how.Signal signal) = codes " signal " ++ signal_text signal
 
+-- what a load loads, if not the jobs of the next folder
+abbrev pub loaded_tokens : Loaded → List ℕ
+loaded_tokens (loaded.Files jobs) = []
+loaded_tokens (loaded.Refused code) = codes " refused " ++ decimal code
+loaded_tokens loaded.Unread = codes " unread"
+
 -- the statement of an input
 abbrev pub statement : Input → List ℕ
 statement (input.Emit event) = codes "emit " ++ event.name ++ flat_map variable_token event.vars
@@ -60,7 +68,7 @@ statement (input.Refused who its) = codes "refused " ++ process_tokens who its
 statement (input.Ended who its end) = codes "ended " ++ process_tokens who its ++ end_tokens end
 statement (input.Clock now) = codes "clock " ++ decimal now
 statement input.Turn = codes "turn"
-statement (input.Load id loaded) = codes "load " ++ decimal id
+statement (input.Load id its) = codes "load " ++ decimal id ++ loaded_tokens its
 
 abbrev pub is_turn : Input → Bool
 is_turn (input.Emit event) = false
@@ -70,7 +78,7 @@ is_turn (input.Refused who its) = false
 is_turn (input.Ended who its end) = false
 is_turn (input.Clock now) = false
 is_turn input.Turn = true
-is_turn (input.Load id loaded) = false
+is_turn (input.Load id its) = false
 
 -- turns that follow one another stand in one line
 unfoldable pub turns_line : ℕ → List ℕ

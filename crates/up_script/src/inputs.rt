@@ -2,14 +2,14 @@
 ghost use Rattle.std.specs.Prelude.{◌≡◌, [], ◌++◌, None, Ok, OnOk, IfOk, IfSome, codes};
 ghost use Rattle.std.specs.List.{flat_map};
 ghost use Rattle.up_script.specs.Statements.{script_inputs};
-ghost use Rattle.up_script.specs.Written.{token_byte, token, variable_token, wait_token, name_token, request_tokens, process_tokens, end_tokens, statement, is_turn, turns_line, script_of, IsUnsaid};
+ghost use Rattle.up_script.specs.Written.{token_byte, token, variable_token, wait_token, name_token, request_tokens, process_tokens, end_tokens, loaded_tokens, statement, is_turn, turns_line, script_of, IsUnsaid};
 
 use crate::push::{push, push_decimal, push_signal};
 use crate::same::{input_at, same_inputs};
 use crate::script::script_inputs;
 use std::alloc::{AllocError, Global};
 use up_conf::Process;
-use up_model::{Event, How, Input, Request, Who, process_name};
+use up_model::{Event, How, Input, Loaded, Request, Who, process_name};
 use up_text::{Env, Items};
 
 /// The most bytes that are read back as a script at once.
@@ -136,6 +136,20 @@ fn push_how(text: &mut Vec<u8>, how: How) -> Result<(), AllocError>
     }
 }
 
+// What a load loads, if not the jobs of the next folder.
+fn push_loaded(text: &mut Vec<u8>, loaded: &Loaded) -> Result<(), AllocError>
+    ensures { OnOk result (text.new.items ≡ text.old.items ++ loaded_tokens loaded.now) }
+{
+    match loaded {
+        Loaded::Files(_) => Ok(()),
+        Loaded::Refused(code) => {
+            push(text, " refused ")?;
+            push_decimal(text, u64::from(*code))
+        }
+        Loaded::Unread => push(text, " unread"),
+    }
+}
+
 // The statement of an input.
 fn push_statement(text: &mut Vec<u8>, input: &Input) -> Result<(), AllocError>
     ensures { OnOk result (text.new.items ≡ text.old.items ++ statement input.now) }
@@ -163,9 +177,10 @@ fn push_statement(text: &mut Vec<u8>, input: &Input) -> Result<(), AllocError>
             push_decimal(text, *reading)
         }
         Input::Turn => push(text, "turn"),
-        Input::Load { id, .. } => {
+        Input::Load { id, loaded } => {
             push(text, "load ")?;
-            push_decimal(text, *id)
+            push_decimal(text, *id)?;
+            push_loaded(text, loaded)
         }
     }
 }
@@ -218,8 +233,8 @@ fn render(alloc: Global, inputs: &[Input]) -> Result<Vec<u8>, AllocError>
     Ok(text)
 }
 
-/// The lines of a script that are read as exactly these inputs; none if a script can't have them, as a load, or a value with a line
-/// feed in it. The lines are read again to see that.
+/// The lines of a script that are read as exactly these inputs; none if a script can't have them, as a load of jobs, or a value with a
+/// line feed in it. The lines are read again to see that.
 pub fn script_lines(alloc: Global, inputs: &[Input]) -> Result<Option<Items<u8>>, AllocError>
     ensures said { IfOk result (λ written. IfSome written (λ text. (text ≡ script_of inputs.now)
         × (script_inputs [] 1 text ≡ Ok inputs.now))) }

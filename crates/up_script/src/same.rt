@@ -1,10 +1,10 @@
 //! Whether inputs are the same.
 ghost use Rattle.std.specs.Prelude.{◌≡◌, ◌<◌, List, Some, true, false, length, slice_get, ℕ};
 ghost use Rattle.std.specs.List.{AllByRecursion};
-ghost use Rattle.up_model.specs.Loads.{is_load};
+ghost use Rattle.up_script.specs.Script.{has_jobs, loads_jobs};
 
 use up_conf::Process;
-use up_model::{Command, Event, How, Input, Request, Who};
+use up_model::{Command, Event, How, Input, Loaded, Request, Who};
 use up_text::Env;
 
 // Whether the key and the value at a place are the same.
@@ -81,9 +81,21 @@ fn same_how(how: How, other: How) -> bool
     how == other
 }
 
-// A load is not among what is read.
+// Jobs that were loaded are not among what is read.
+fn same_loaded(loaded: &Loaded, other: &Loaded) -> bool
+    requires { has_jobs loaded.now ≡ false }
+    ensures same { result ≡ true → loaded.now ≡ other.now }
+    ensures differs { loaded.now ≡ other.now → result ≡ true }
+{
+    match (loaded, other) {
+        (Loaded::Refused(code), Loaded::Refused(its)) => *code == *its,
+        (Loaded::Unread, Loaded::Unread) => true,
+        _ => false,
+    }
+}
+
 fn same_input(input: &Input, other: &Input) -> bool
-    requires { is_load input.now ≡ false }
+    requires { loads_jobs input.now ≡ false }
     ensures same { result ≡ true → input.now ≡ other.now }
     ensures differs { input.now ≡ other.now → result ≡ true }
 {
@@ -121,6 +133,13 @@ fn same_input(input: &Input, other: &Input) -> bool
         ) => same_who(who, of) && same_process(*process, *its) && same_how(*how, *end),
         (Input::Clock(reading), Input::Clock(its)) => *reading == *its,
         (Input::Turn, Input::Turn) => true,
+        (
+            Input::Load { id, loaded },
+            Input::Load {
+                id: of,
+                loaded: its,
+            },
+        ) => { *id == *of && same_loaded(loaded, its) }
         _ => false,
     }
 }
@@ -133,10 +152,10 @@ pub(crate) fn input_at(inputs: &[Input], i: usize) -> &Input
     &inputs[i]
 }
 
-/// Whether both are the same inputs in the same order. The first ones are what a script gives, so that no load is among them.
+/// Whether both are the same inputs in the same order. The first ones are what a script gives, so that no load of jobs is among them.
 #[tactic(auto, using(crate::proofs::Compared::one_further, crate::proofs::Compared::all_same))]
 pub(crate) fn same_inputs(inputs: &[Input], others: &[Input]) -> bool
-    requires { AllByRecursion (λ input. is_load input ≡ false) inputs.now }
+    requires { AllByRecursion (λ input. loads_jobs input ≡ false) inputs.now }
     ensures same { result ≡ true → inputs.now ≡ others.now }
     ensures differs { inputs.now ≡ others.now → result ≡ true }
 {

@@ -1,7 +1,7 @@
 //! Reads the words of a script's line.
-ghost use Rattle.std.specs.Prelude.{◌≡◌, IfOk, IfSome, Some, drop, option_map};
+ghost use Rattle.std.specs.Prelude.{◌≡◌, IfOk, IfSome, Some, option_map};
 ghost use Rattle.up_script.specs.ScriptInputs.{inputs_of_step};
-ghost use Rattle.up_script.specs.Script.{who_named, process_of, how_of, emit_of, spawned_of, refused_of, ended_of, clock_of, load_of, input_of, turns_of, inputs_of, left_by, left_after};
+ghost use Rattle.up_script.specs.Script.{who_named, process_of, how_of, emit_of, spawned_of, refused_of, ended_of, clock_of, loaded_of, load_of, input_of, turns_of, inputs_of, left_by, left_by_load, left_by_loaded, left_after};
 
 use crate::requests::request_of;
 use crate::scripted::StepInputs;
@@ -137,20 +137,33 @@ fn clock_of(words: &[Text]) -> Option<Input>
     }
 }
 
-// A load of the next table, if one is left.
+// What a load loads, by the words after the number of its request: the next table, if one is left, or nothing.
+fn loaded_of(tables: &mut VecDeque<Table>, words: &[Text]) -> Option<Loaded>
+    ensures loaded { result ≡ loaded_of tables.old.items words.now }
+    ensures left { IfSome result (λ _. tables.new.items ≡ left_by_loaded tables.old.items words.now) }
+{
+    match words {
+        [] => tables.pop_front().map(Loaded::Files),
+        [word] if word.is("unread") => Some(Loaded::Unread),
+        [word, code] if word.is("refused") => {
+            let code = number_in(0, 255, code.as_str())?;
+            Some(Loaded::Refused(code as u8))
+        }
+        _ => None,
+    }
+}
+
+// A load, by the number of the request that asked for it.
 fn load_of(tables: &mut VecDeque<Table>, words: &[Text]) -> Option<Input>
     ensures input { result ≡ load_of tables.old.items words.now }
-    ensures left { IfSome result (λ _. tables.new.items ≡ drop 1 tables.old.items) }
+    ensures left { IfSome result (λ _. tables.new.items ≡ left_by_load tables.old.items words.now) }
 {
-    let [id] = words else {
+    let [id, words @ ..] = words else {
         return None;
     };
     let id = number_in(0, u64::MAX, id.as_str())?;
-    let table = tables.pop_front()?;
-    Some(Input::Load {
-        id,
-        loaded: Loaded::Files(table),
-    })
+    let loaded = loaded_of(tables, words)?;
+    Some(Input::Load { id, loaded })
 }
 
 // The one input of a line by its first word and the others.
@@ -162,7 +175,7 @@ fn input_of(
 ) -> Result<Option<Input>, AllocError>
     ensures input { IfOk result (λ input. input ≡ input_of tables.old.items kind.now words.now) }
     ensures left { IfOk result (λ input. IfSome input
-        (λ _. tables.new.items ≡ left_by tables.old.items kind.now)) }
+        (λ _. tables.new.items ≡ left_by tables.old.items kind.now words.now)) }
 {
     if kind.is("emit") {
         emit_of(alloc, words)

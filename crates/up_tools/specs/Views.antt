@@ -18,7 +18,9 @@ use Rattle.up_print.specs.declared.printed.Printed.{Printed}
 use Rattle.up_script.specs.declared.bundle.TheConstants.{MAX_BUNDLE}
 use Rattle.up_script.specs.Bundle.{files_of, lines_of}
 use Rattle.up_print.specs.Folders.{IsTable, PrintsFaults, prints}
-use Rattle.up_replay.specs.Replay.{Plays}
+use Rattle.up_replay.specs.declared.bundle.BundleRun.{BundleRun}
+use Rattle.up_replay.specs.Compiling.{Compiles}
+use Rattle.up_replay.specs.Replay.{output_by, play_output, Plays}
 use Rattle.up_script.specs.Statements.{script_inputs}
 use Rattle.up_tools.specs.declared.view.View.{View}
 use Rattle.up_tools.specs.declared.view.View.TheVariants as view
@@ -91,3 +93,23 @@ ViewsStored image how name made = ((bytes : Bytes) × ViewsBytes bytes image how
 -- what is printed of a record over a folder or an image
 abbrev pub ViewsSource : (source : Bytes) → View → (name : Bytes) → Printed → Type 0
 ViewsSource source how name made = ViewsDir source how name made ⊎ ViewsStored source how name made
+
+-- what is printed of a bundle that is compiled; at a bad step what a replay prints
+abbrev pub viewed_by : View → (name : Bytes) → List JobDef → (faults : Printed) → Result (List Input) ℕ → Printed
+viewed_by how name jobs faults (Ok inputs) = prints (shown how (run_chart jobs inputs)) faults.status
+viewed_by how name jobs faults (Err line) = play_output [] name jobs faults (Err line)
+
+abbrev pub viewed_run : View → (name : Bytes) → BundleRun → Printed
+viewed_run how name run = viewed_by how name run.table run.faults run.read
+
+-- what is printed of a record that is a bundle, which has 64 MiB at most: what the refusal of one of its folders prints, or this
+pub record ViewsBundle (how : View) (name : Bytes) (made : Printed) : Type 0 where
+  pub bytes : Bytes
+  pub bounded : length bytes ≤ MAX_BUNDLE
+  pub run : Result BundleRun Printed
+  pub compiles : Compiles bytes run
+  pub same : made ≡ output_by (viewed_run how name) run
+
+-- the same, or that its file can't be used
+abbrev pub ViewsFile : (name : Bytes) → View → Printed → Type 0
+ViewsFile name how made = ViewsBundle how name made ⊎ IsUnusable name made

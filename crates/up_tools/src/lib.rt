@@ -9,6 +9,6 @@ mod watch;
 
 pub use compare::compare_dir;
 pub use lint::lint_dir;
-pub use source::view_source;
+pub use source::{view_file, view_source};
 pub use up_lint::{Kind, kind_named};
 pub use view::View;

@@ -3,9 +3,9 @@ ghost use Rattle.std.specs.Prelude.{◌≤◌, ◌⊎◌, IfOk, IfSome, length};
 ghost use Rattle.up_disk.specs.Disk.{IsUnusable};
 ghost use Rattle.up_disk.specs.Walk.{IsWalked};
 ghost use Rattle.up_script.specs.declared.bundle.TheConstants.{MAX_BUNDLE};
-ghost use Rattle.up_tools.specs.Views.{ViewsDir, ViewsFiles, ViewsOver, ViewsShown, ViewsSource, ViewsStored};
+ghost use Rattle.up_tools.specs.Views.{ViewsDir, ViewsFile, ViewsFiles, ViewsOver, ViewsShown, ViewsSource, ViewsStored};
 
-use crate::view::{View, view_folder};
+use crate::view::{View, view_bundle, view_folder};
 use std::alloc::AllocError;
 use std::fs;
 use std::io::{Eprint, ErrorKind};
@@ -133,5 +133,19 @@ pub fn view_source<R: Files + Eprint + AllocGlobal + Clone + Drop>(
     match fs::metadata(rt, source) {
         Ok(found) if found.is_file() => view_image(rt, view, source, log),
         Ok(_) | Err(_) => view_dir(rt, view, source, log),
+    }
+}
+
+/// What is printed of a record that is a bundle, which has its folders and its script.
+pub fn view_file<R: Files + Eprint + AllocGlobal>(
+    rt: &R,
+    view: View,
+    bundle: &str,
+) -> Result<Printed, AllocError>
+    ensures { IfOk result (ViewsFile bundle.now view) }
+{
+    match read_record(rt, bundle)? {
+        Some(bytes) => view_bundle(rt.alloc(), view, bytes.as_slice(), bundle),
+        None => cannot_use(rt.alloc(), bundle),
     }
 }

@@ -1,6 +1,8 @@
 //! What is printed of a folder's jobs and the inputs of a record.
-ghost use Rattle.std.specs.Prelude.{◌≡◌, [], IfOk};
-ghost use Rattle.up_tools.specs.Views.{Views, ViewsInputs, shown};
+ghost use Rattle.std.specs.Prelude.{◌≡◌, ◌≤◌, [], IfOk, length};
+ghost use Rattle.up_script.specs.declared.bundle.TheConstants.{MAX_BUNDLE};
+ghost use Rattle.up_print.specs.Folders.{prints};
+ghost use Rattle.up_tools.specs.Views.{Views, ViewsBundle, ViewsInputs, run_chart, shown, viewed_run};
 
 use crate::watch::watch;
 use std::alloc::{AllocError, Global};
@@ -8,10 +10,11 @@ use up_chart::Chart;
 use up_chart::blame::blame;
 use up_chart::svg::svg;
 use up_conf::Folder;
+use up_image::Table;
 use up_model::Input;
 use up_print::Printed;
 use up_print::check::faults_and_compile;
-use up_replay::render_folder;
+use up_replay::{BundleRun, compile_bundle, play_run, render_folder};
 use up_script::ScriptInputs;
 use up_text::{Env, Items};
 
@@ -37,6 +40,20 @@ fn show(alloc: Global, view: View, chart: Chart) -> Result<Vec<u8>, AllocError>
     }
 }
 
+// The text of a run of these jobs.
+fn show_run(
+    alloc: Global,
+    view: View,
+    table: Table,
+    inputs: &[Input],
+) -> Result<Items<u8>, AllocError>
+    ensures { IfOk result (λ text. text ≡ shown view (run_chart table inputs.now)) }
+{
+    let chart = watch(alloc, table, inputs)?;
+    let text = show(alloc, view, chart)?;
+    Ok(Items::new(text))
+}
+
 // What is printed of a run of a folder's jobs.
 fn view_inputs(
     alloc: Global,
@@ -52,8 +69,7 @@ fn view_inputs(
     };
     let status = printed.status;
     drop(printed);
-    let chart = watch(alloc, table, inputs)?;
-    let text = Items::new(show(alloc, view, chart)?);
+    let text = show_run(alloc, view, table, inputs)?;
     Ok(Printed { text, status })
 }
 
@@ -77,5 +93,70 @@ pub(crate) fn view_folder(
             let read: Result<ScriptInputs, u32> = Err(line);
             render_folder(alloc, folder, Env::new(alloc), name, read)
         }
+    }
+}
+
+// What is printed of a bundle that is compiled.
+fn view_run(alloc: Global, view: View, run: BundleRun, name: &str) -> Result<Printed, AllocError>
+    ensures { IfOk result (λ made. made ≡ viewed_run view name.now run) }
+{
+    let BundleRun {
+        faults,
+        table,
+        read,
+    } = run;
+    match read {
+        Ok(inputs) => view_steps(alloc, view, faults, table, inputs),
+        Err(line) => {
+            let run = BundleRun {
+                faults,
+                table,
+                read: Err(line),
+            };
+            play_run(alloc, run, Env::new(alloc), name)
+        }
+    }
+}
+
+// What is printed of a run of the jobs of a bundle.
+fn view_steps(
+    alloc: Global,
+    view: View,
+    faults: Printed,
+    table: Table,
+    inputs: ScriptInputs,
+) -> Result<Printed, AllocError>
+    ensures { IfOk result (λ made. made ≡ prints (shown view (run_chart table inputs)) faults.status) }
+{
+    let status = faults.status;
+    drop(faults);
+    match inputs.expanded(alloc) {
+        Ok(inputs) => {
+            let shown = show_run(alloc, view, table, inputs.as_slice());
+            drop(inputs);
+            let text = shown?;
+            Ok(Printed { text, status })
+        }
+        Err(refused) => {
+            drop(table);
+            Err(refused)
+        }
+    }
+}
+
+/// What is printed of the bytes of a record that is a bundle with this name. At a bad step, and if one of its folders is refused, it is what
+/// a replay prints.
+pub(crate) fn view_bundle(
+    alloc: Global,
+    view: View,
+    bytes: &[u8],
+    name: &str,
+) -> Result<Printed, AllocError>
+    requires { length bytes.now ≤ MAX_BUNDLE }
+    ensures { IfOk result (ViewsBundle view name.now) }
+{
+    match compile_bundle(alloc, bytes)? {
+        Ok(run) => view_run(alloc, view, run, name),
+        Err(refusal) => Ok(refusal),
     }
 }

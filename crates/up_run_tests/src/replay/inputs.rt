@@ -9,7 +9,7 @@ use up_text::Text;
 
 // A script in the form in which inputs are written, with each kind of input.
 static SCRIPT: &str =
-    "emit startup\nclock 18446744073709551615\nemit x A=\"b  c#$\\\"\\\\d'\u{e9}\t\" B=\"\"\nrequest 1 start a K=\"v\"\nrequest 2 stop --no-wait a\nrequest 3 restart a\nrequest 4 status a\nrequest 5 list\nrequest 6 emit --no-wait --no-wait\nrequest 7 reload a\nrequest 8 reload-configuration\nrequest 9 version\nturn\nspawned a \"\" main 4294967295\nturn 256\nrefused a \"i j\\\"\" pre-start\nended a \"\" post-start exit 255\nended a \"\" pre-stop signal TERM\nended a \"\" post-stop signal SYS\nclock 0\nturn 2\n";
+    "emit startup\nclock 18446744073709551615\nemit x A=\"b  c#$\\\"\\\\d'\u{e9}\t\" B=\"\"\nrequest 1 start a K=\"v\"\nrequest 2 stop --no-wait a\nrequest 3 restart a\nrequest 4 status a\nrequest 5 list\nrequest 6 emit --no-wait --no-wait\nrequest 7 reload a\nrequest 8 reload-configuration\nrequest 9 version\nturn\nspawned a \"\" main 4294967295\nturn 256\nrefused a \"i j\\\"\" pre-start\nended a \"\" post-start exit 255\nended a \"\" pre-stop signal TERM\nended a \"\" post-stop signal SYS\nclock 0\nload 10 refused 255\nload 18446744073709551615 unread\nturn 2\n";
 
 // The lines of a short script's inputs.
 fn lines_of(alloc: Global, script: &[u8]) -> Result<Option<Items>, AllocError> {
