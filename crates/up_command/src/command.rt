@@ -103,6 +103,7 @@ fn parse_compile<'a>(given: &ArgMatches<'a>) -> Option<Invocation<'a>> {
 }
 
 // A folder or an image, and the file of what happened to it; or a bundle, which has both and stands alone.
+#[derive(Clone, Copy, Drop)]
 enum Happened<'a> {
     Over(&'a str, &'a str),
     Bundle(&'a str),

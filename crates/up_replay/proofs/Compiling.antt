@@ -168,13 +168,12 @@ later_made folders faults jobs read found (Err other) has is = tt
 later_made folders faults jobs read found (Ok run) has is = record {
   later = has.made;
   are = has.are;
-  same = ap Ok (run_same run (record { faults = joined faults found.faults; table = jobs; read = read found.tables.items }) is.0 is.1 is.2)
+  same = ap (λ text. Ok (record { faults = text; table = run.table; read = run.read })) is.0
+      ∙ ap (λ table. Ok (record { faults = joined faults found.faults; table = table; read = run.read })) is.1
+      ∙ ap (λ inputs. Ok (record { faults = joined faults found.faults; table = jobs; read = inputs })) is.2
       ∙ ap (λ more. Ok (record { faults = joined faults more; table = jobs; read = read found.tables.items })) has.same
       ∙ ap (λ later. run_after faults jobs later read) (sym has.all);
 }
-  where
-    run_same : (one other : BundleRun) → one.faults ≡ other.faults → one.table ≡ other.table → one.read ≡ other.read → one ≡ other
-    run_same one other text table read = grind (text, table, read)
 
 pub later_refused : (folders : List (List File)) (faults : Printed) (jobs : List JobDef) (read : List (List JobDef) → Result (List Input) ℕ) (printed : Printed)
     → IsRefused folders printed → CompilesLater folders faults jobs read (Err printed)
