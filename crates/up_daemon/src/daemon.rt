@@ -15,8 +15,8 @@ use crate::log::{Log, Round};
 use crate::work::Work;
 use std::alloc::{AllocError, Global};
 use std::mem;
-use up_engine::Engine;
 use up_edge::{Door, Host, Source};
+use up_engine::Engine;
 
 /// An engine between a host, a door and a source of configurations, which works in rounds.
 #[derive(Drop)]

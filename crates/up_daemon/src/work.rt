@@ -18,8 +18,8 @@ use crate::clients::Clients;
 use crate::copies::push_copies;
 use crate::log::Log;
 use std::alloc::{AllocError, Global};
-use up_engine::{Engine, StepError};
 use up_edge::Host;
+use up_engine::{Engine, StepError};
 use up_model::{Input, Order, Output, Who};
 
 /// What a daemon works with: its engine, its clients, and what the round did so far.
