@@ -1,7 +1,8 @@
 -- Which numbers are connected, as clients come and go.
 use Rattle.std.proofs.Common.{◌≡◌, ◌∙◌, ◌+◌, ◌++◌, ◌∷◌, [], ℕ, ◌==◌, Bool, true, false, if◌then◌else◌, List, refl, ap, arith, eq-eqb, eqb-true}
 use Rattle.std.proofs.lemmas.Bool.{both_ways}
-use Rattle.up_daemon.specs.Connected.{SameClients, Connects, Disconnects, count_of, AreConnected}
+use Rattle.up_daemon.specs.Connected.{count_of, AreConnected}
+use Rattle.up_edge.specs.Connecting.{SameClients, Connects, Disconnects}
 use Rattle.up_daemon.specs.Peers.{Peer, numbers_of, IsNobody}
 
 pub count_append : (number : ℕ) (before after : List ℕ) → count_of number (before ++ after) ≡ count_of number before + count_of number after

@@ -1,9 +1,9 @@
 -- The calls of a round, counted.
 use Rattle.std.proofs.Common.{◌≡◌, ◌+◌, ◌++◌, ◌∷◌, [], ℕ, suc, min, List, None, Some, length, take, refl, ap, inl, inr, arith}
 use Rattle.std.proofs.lemmas.List.{length-append}
-use Rattle.up_host.specs.Calls.{Calls, most_count, with_entry, with_failure}
-use Rattle.up_host.specs.declared.happened.Happened.{Happened}
-use Rattle.up_host.specs.declared.happened.Happened.TheVariants as happened
+use Rattle.up_edge.specs.Calls.{Calls, most_count, with_entry, with_failure}
+use Rattle.up_edge.specs.declared.happened.Happened.{Happened}
+use Rattle.up_edge.specs.declared.happened.Happened.TheVariants as happened
 use Rattle.up_model.specs.Chronicle.{Chronicle}
 use Rattle.up_model.specs.Configuration.{Configuration}
 use Rattle.up_model.specs.Requests.{RequestValue}
@@ -15,8 +15,8 @@ use Rattle.up_model.specs.declared.output.Output.TheVariants as output
 use Rattle.up_daemon.specs.Asking.{IsAsked}
 use Rattle.up_daemon.specs.Counting.{orders_in, orders_given, ends_in, faults_after}
 use Rattle.up_daemon.specs.Laws.{CountsCalls}
-use Rattle.up_daemon.specs.declared.passed.Passed.{Passed}
-use Rattle.up_daemon.specs.declared.passed.Passed.TheVariants as passed
+use Rattle.up_edge.specs.declared.passed.Passed.{Passed}
+use Rattle.up_edge.specs.declared.passed.Passed.TheVariants as passed
 use Rattle.up_daemon.specs.Rounds.{Reaches, ran, ran_not, Opens, ReadsClock, ClockFails, FindsEnd, FindsNone, PollFails, LetsIn, NobodyWaits, AcceptFails, IsFull, PassesOver, FindsNothing, FindsBytes, FindsFault, FindsLast, ReadFails, Closes, ClosesUnrecorded, HasRead, Enters, HasServed, TakesTurn, HasTurned, NothingWaits, Writes, WriteFails, Starts, StartFails, Signals, SignalFails, PassesEvent, Replies}
 use Rattle.up_daemon.specs.RoundStates.{Part, ReadingClock, FindingEnds, LettingIn, ReadingFrom, TakingRequests, TakingTurns, WritingTo, ClosingOf, DaemonState, RoundState}
 use Rattle.up_daemon.proofs.Sourced.{sourced}

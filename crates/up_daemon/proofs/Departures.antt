@@ -2,7 +2,7 @@
 use Rattle.std.proofs.Common.{◌≡◌, sym, ◌∙◌, ◌++◌, ◌∷◌, ◌≤◌, ◌+◌, ◌⊎◌, [], ℕ, suc, List, None, Some, length, take, refl, ap, inl, inr, arith}
 use Rattle.std.specs.List.{AllByRecursion}
 use Rattle.std.proofs.lemmas.List.{append-nil, length-append}
-use Rattle.up_host.specs.Calls.{Calls, with_entry, with_failure}
+use Rattle.up_edge.specs.Calls.{Calls, with_entry, with_failure}
 use Rattle.up_model.specs.Chronicle.{Chronicle}
 use Rattle.up_model.specs.Configuration.{Configuration}
 use Rattle.up_model.specs.Requests.{RequestValue}
@@ -13,8 +13,8 @@ use Rattle.up_daemon.specs.Departing.{Cause, SendsNoMore, BreaksFrame, CallFails
 use Rattle.up_daemon.specs.Exchanges.{IsAmong}
 use Rattle.up_daemon.specs.Laws.{ClosesForCause}
 use Rattle.up_daemon.specs.Peers.{Peer, newcomer, heard, answered, numbers_of, IsEntered, IsQueued}
-use Rattle.up_daemon.specs.declared.passed.Passed.{Passed}
-use Rattle.up_daemon.specs.declared.passed.Passed.TheVariants as passed
+use Rattle.up_edge.specs.declared.passed.Passed.{Passed}
+use Rattle.up_edge.specs.declared.passed.Passed.TheVariants as passed
 use Rattle.up_daemon.specs.Rounds.{Reaches, Opens, ReadsClock, ClockFails, FindsEnd, FindsNone, PollFails, LetsIn, NobodyWaits, AcceptFails, IsFull, PassesOver, FindsNothing, FindsBytes, FindsFault, FindsLast, ReadFails, Closes, ClosesUnrecorded, HasRead, Enters, HasServed, TakesTurn, HasTurned, NothingWaits, Writes, WriteFails, Starts, StartFails, Signals, SignalFails, PassesEvent, Replies}
 use Rattle.up_daemon.specs.RoundStates.{Part, ReadingClock, FindingEnds, LettingIn, ReadingFrom, TakingRequests, TakingTurns, WritingTo, ClosingOf, HasOrders, DaemonState, RoundState}
 use Rattle.up_daemon.proofs.Connections.{count_append}

@@ -5,12 +5,12 @@ use Rattle.std.specs.Prelude.{option_map}
 use Rattle.std.proofs.lemmas.Bool.{ltb-true, ltb-false}
 use Rattle.up_wire.specs.Frames.{Bytes}
 use Rattle.up_daemon.specs.declared.clients.client.Client.{Client}
-use Rattle.up_daemon.specs.declared.passed.Passed.{Passed}
-use Rattle.up_daemon.specs.declared.passed.Passed.TheVariants.{Read}
-use Rattle.up_host.specs.Calls.{Calls, with_entry}
+use Rattle.up_edge.specs.declared.passed.Passed.{Passed}
+use Rattle.up_edge.specs.declared.passed.Passed.TheVariants.{Read}
+use Rattle.up_edge.specs.Calls.{Calls, with_entry}
 use Rattle.up_model.specs.Chronicle.{Chronicle}
 use Rattle.up_model.specs.Configuration.{Configuration}
-use Rattle.up_daemon.specs.Closing.{ReportsClose}
+use Rattle.up_edge.specs.Closing.{ReportsClose}
 use Rattle.up_daemon.specs.Connected.{AreConnected}
 use Rattle.up_daemon.specs.Hearing.{most_waiting, most_read, Takes, Hears, IsTaken, IsPassedOver, IsReadOnce, IsWrittenOnce}
 use Rattle.up_daemon.specs.Peers.{Peer, peer_of, peers_of, numbers_of, heard, newcomer}

@@ -1,7 +1,7 @@
 -- One call of the host more, and what is fed of it.
 use Rattle.std.proofs.Common.{◌∷◌, ℕ, List, reverse, refl, inl, inr}
-use Rattle.up_host.specs.Calls.{Calls}
-use Rattle.up_host.specs.declared.happened.Happened.{Happened}
+use Rattle.up_edge.specs.Calls.{Calls}
+use Rattle.up_edge.specs.declared.happened.Happened.{Happened}
 use Rattle.up_engine.specs.Stands.{Stands}
 use Rattle.up_model.specs.Answers.{after_all}
 use Rattle.up_model.specs.Chronicle.{Chronicle}
@@ -12,7 +12,7 @@ use Rattle.up_model.specs.declared.output.Order.{Order}
 use Rattle.up_model.specs.declared.output.Output.{Output}
 use Rattle.up_model.specs.declared.output.Output.TheVariants as output
 use Rattle.up_model.specs.declared.who.Who.{Who}
-use Rattle.up_daemon.specs.declared.passed.Passed.{Passed}
+use Rattle.up_edge.specs.declared.passed.Passed.{Passed}
 use Rattle.up_daemon.specs.declared.work.Work.{Work}
 use Rattle.up_daemon.specs.Rounds.{Starts, StartFails, Signals, SignalFails}
 use Rattle.up_daemon.specs.RoundStates.{Part, DaemonState}

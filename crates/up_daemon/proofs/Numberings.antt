@@ -1,6 +1,6 @@
 -- The requests of a round are numbered one after another.
 use Rattle.std.proofs.Common.{◌+◌, ◌++◌, ◌∷◌, [], ℕ, List, inl, inr, refl, sym}
-use Rattle.up_host.specs.Calls.{Calls}
+use Rattle.up_edge.specs.Calls.{Calls}
 use Rattle.up_model.specs.Requests.{RequestValue}
 use Rattle.up_model.specs.declared.input.Input.{Input}
 use Rattle.up_model.specs.declared.input.Input.TheVariants as input

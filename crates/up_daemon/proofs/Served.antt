@@ -4,7 +4,7 @@ use Rattle.std.specs.Prelude.{⊤, ◌≢◌}
 use Rattle.std.specs.List.{AllByRecursion}
 use Rattle.std.proofs.lemmas.List.{append-nil}
 use Rattle.std.proofs.lemmas.Option.{none-some}
-use Rattle.up_host.specs.Calls.{Calls}
+use Rattle.up_edge.specs.Calls.{Calls}
 use Rattle.up_model.specs.Chronicle.{Chronicle}
 use Rattle.up_model.specs.Configuration.{Configuration}
 use Rattle.up_model.specs.Requests.{RequestValue}
@@ -17,8 +17,8 @@ use Rattle.up_model.specs.declared.request.Answer.{Answer}
 use Rattle.up_wire.specs.Frames.{Bytes, Frames}
 use Rattle.up_daemon.specs.Asking.{IsAsked}
 use Rattle.up_daemon.specs.Peers.{Peer, newcomer, heard, asked, answered, IsEntered, IsQueued, IsNobody}
-use Rattle.up_daemon.specs.declared.passed.Passed.{Passed}
-use Rattle.up_daemon.specs.declared.passed.Passed.TheVariants as passed
+use Rattle.up_edge.specs.declared.passed.Passed.{Passed}
+use Rattle.up_edge.specs.declared.passed.Passed.TheVariants as passed
 use Rattle.up_daemon.specs.Exchanges.{Exchange, Asked, Replied, open_after, frames_for, written_to, weight, weight_given, weight_replied, requests_in, requests_of, IsFedAs, AreFedAs, asked_by, IsQuiet, IsHeard, HearsNothing, HearsOther, Apart, AreApart, IsBelow, IsNumbered, IsAmong}
 use Rattle.up_daemon.specs.Laws.{IsServed, IsJust, LosesNothing}
 use Rattle.up_daemon.specs.Rounds.{Reaches, Opens, ReadsClock, ClockFails, FindsEnd, FindsNone, PollFails, LetsIn, NobodyWaits, AcceptFails, IsFull, PassesOver, FindsNothing, FindsBytes, FindsFault, FindsLast, ReadFails, Closes, ClosesUnrecorded, HasRead, Enters, HasServed, TakesTurn, HasTurned, NothingWaits, Writes, WriteFails, Starts, StartFails, Signals, SignalFails, PassesEvent, Replies}

@@ -8,8 +8,8 @@ use Rattle.up_model.specs.Requests.{RequestValue}
 use Rattle.up_wire.specs.Answers.{answer_frames}
 use Rattle.up_wire.specs.Frames.{Bytes, Frames}
 use Rattle.up_daemon.specs.Peers.{Peer, asked, answered, heard}
-use Rattle.up_daemon.specs.declared.passed.Passed.{Passed}
-use Rattle.up_daemon.specs.declared.passed.Passed.TheVariants as passed
+use Rattle.up_edge.specs.declared.passed.Passed.{Passed}
+use Rattle.up_edge.specs.declared.passed.Passed.TheVariants as passed
 use Rattle.up_daemon.specs.Exchanges.{Exchange, Asked, Replied, is_open, open_after, frames_for, written_to, weight, weight_given, asked_by, IsQuiet, HearsOther, HearsPiece}
 use Rattle.up_daemon.specs.Laws.{IsServed}
 use Rattle.up_daemon.proofs.Changes.{differ}

@@ -1,7 +1,7 @@
 -- The calls of the source in a round, counted.
 use Rattle.std.proofs.Common.{◌≡◌, ◌+◌, ◌++◌, ◌∷◌, [], ℕ, suc, min, List, length, refl, ap, inl, inr, arith}
 use Rattle.std.proofs.lemmas.List.{length-append}
-use Rattle.up_host.specs.Calls.{Calls, most_count}
+use Rattle.up_edge.specs.Calls.{Calls, most_count}
 use Rattle.up_model.specs.Chronicle.{Chronicle}
 use Rattle.up_model.specs.Configuration.{Configuration}
 use Rattle.up_model.specs.Requests.{RequestValue}

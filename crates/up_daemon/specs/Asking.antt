@@ -1,6 +1,6 @@
 -- What a request is fed as.
 use Rattle.std.specs.Prelude.{◌≡◌, ◌≢◌, ◌⊎◌, ℕ}
-use Rattle.up_host.specs.Calls.{Calls, with_entry, with_failure}
+use Rattle.up_edge.specs.Calls.{Calls, with_entry, with_failure}
 use Rattle.up_model.specs.Requests.{RequestValue}
 use Rattle.up_model.specs.declared.input.Input.{Input}
 use Rattle.up_model.specs.declared.input.Input.TheVariants.{Request, Load}

@@ -1,6 +1,6 @@
 -- How many calls a round makes.
 use Rattle.std.specs.Prelude.{◌≡◌, ◌⊎◌, ℕ, ◌+◌, zero, suc, min, List, [], ◌∷◌, length}
-use Rattle.up_host.specs.Calls.{most_count, with_fault}
+use Rattle.up_edge.specs.Calls.{most_count, with_fault}
 use Rattle.up_model.specs.declared.input.Input.{Input}
 use Rattle.up_model.specs.declared.input.Input.TheVariants as input
 use Rattle.up_model.specs.declared.loaded.Loaded.{Loaded}

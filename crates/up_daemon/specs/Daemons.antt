@@ -2,11 +2,11 @@
 use Rattle.std.specs.Prelude.{ℕ, Bool, List}
 use Rattle.up_engine.specs.declared.engine.Engine.{Engine}
 use Rattle.up_daemon.specs.declared.daemon.Daemon.{Daemon}
-use Rattle.up_host.specs.Calls.{Calls}
+use Rattle.up_edge.specs.Calls.{Calls}
 use Rattle.up_model.specs.declared.loaded.Loaded.{Loaded}
-use Rattle.up_host.specs.declared.happened.Happened.{Happened}
+use Rattle.up_edge.specs.declared.happened.Happened.{Happened}
 use Rattle.up_daemon.specs.RoundStates.{DaemonState}
-use Rattle.up_daemon.specs.declared.passed.Passed.{Passed}
+use Rattle.up_edge.specs.declared.passed.Passed.{Passed}
 use Rattle.up_daemon.specs.Peers.{Peer, peers_of}
 
 -- its engine

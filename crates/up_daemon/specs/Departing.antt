@@ -8,8 +8,8 @@ use Rattle.up_daemon.specs.Exchanges.{IsAmong}
 use Rattle.up_daemon.specs.Hearing.{IsBroken}
 use Rattle.up_daemon.specs.Peers.{Peer, newcomer, numbers_of}
 use Rattle.up_daemon.specs.RoundStates.{DaemonState}
-use Rattle.up_daemon.specs.declared.passed.Passed.{Passed}
-use Rattle.up_daemon.specs.declared.passed.Passed.TheVariants as passed
+use Rattle.up_edge.specs.declared.passed.Passed.{Passed}
+use Rattle.up_edge.specs.declared.passed.Passed.TheVariants as passed
 
 -- Why a client is closed: it sends no more; these bytes that were read from it break a frame; a read or a write of it failed.
 pub data Cause : Type 0 where

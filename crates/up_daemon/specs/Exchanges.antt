@@ -11,8 +11,8 @@ use Rattle.up_wire.specs.Answers.{answer_frames}
 use Rattle.up_wire.specs.Frames.{Bytes, Frames}
 use Rattle.up_model.specs.Requests.{RequestValue}
 use Rattle.up_daemon.specs.Peers.{Peer}
-use Rattle.up_daemon.specs.declared.passed.Passed.{Passed}
-use Rattle.up_daemon.specs.declared.passed.Passed.TheVariants as passed
+use Rattle.up_edge.specs.declared.passed.Passed.{Passed}
+use Rattle.up_edge.specs.declared.passed.Passed.TheVariants as passed
 
 -- a request of a client entered under a number, or the request of a number was answered
 pub data Exchange : Type 0 where

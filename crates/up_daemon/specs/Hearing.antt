@@ -1,6 +1,6 @@
 -- What is said and answered at one client.
 use Rattle.std.specs.Prelude.{◌≡◌, ◌≢◌, ◌++◌, ◌∷◌, ◌⊎◌, ◌≤◌, ℕ, Bool, true, false, List, [], length, take, drop, Option, None, Some, IfSome, MatchOption, ⊤}
-use Rattle.up_host.specs.Calls.{Calls, with_entry, with_failure}
+use Rattle.up_edge.specs.Calls.{Calls, with_entry, with_failure}
 use Rattle.up_model.specs.Requests.{RequestValue}
 use Rattle.up_model.specs.declared.request.Answer.{Answer}
 use Rattle.up_wire.specs.Answers.{answer_frames}
@@ -8,8 +8,8 @@ use Rattle.up_wire.specs.Frames.{Bytes, Frames, Breaks}
 use Rattle.up_wire.specs.declared.fault.FrameFault.{FrameFault}
 use Rattle.up_daemon.specs.declared.clients.client.Client.{Client}
 use Rattle.up_daemon.specs.Peers.{peer_of, is_ready}
-use Rattle.up_daemon.specs.declared.passed.Passed.{Passed}
-use Rattle.up_daemon.specs.declared.passed.Passed.TheVariants.{Read, Wrote}
+use Rattle.up_edge.specs.declared.passed.Passed.{Passed}
+use Rattle.up_edge.specs.declared.passed.Passed.TheVariants.{Read, Wrote}
 
 -- the client keeps its number
 abbrev pub IsSame : Client → Client → Type 0

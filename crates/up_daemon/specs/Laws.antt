@@ -8,7 +8,7 @@ use Rattle.up_model.specs.declared.input.Input.{Input}
 use Rattle.up_model.specs.declared.output.Output.{Output}
 use Rattle.up_model.specs.declared.request.Answer.{Answer}
 use Rattle.up_daemon.specs.Peers.{Peer, newcomer, IsNobody}
-use Rattle.up_daemon.specs.declared.passed.Passed.{Passed}
+use Rattle.up_edge.specs.declared.passed.Passed.{Passed}
 use Rattle.up_daemon.specs.Rounds.{IsRound}
 use Rattle.up_daemon.specs.RoundStates.{DaemonState, HasItsClients}
 use Rattle.up_daemon.specs.Counting.{MakesCalls}

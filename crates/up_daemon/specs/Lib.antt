@@ -1,13 +1,5 @@
 -- Which clients are connected.
 pub mod Connected
--- What a close reports.
-pub mod Closing
--- Which clients a slab holds.
-pub mod Clients
--- Which paths a socket may have (unix(7)), and why one is refused.
-pub mod Sockets
--- What a read of a script may find.
-pub mod Speaking
 -- The refusals of a daemon.
 pub mod Refusals
 -- What a round knows of a client.

@@ -1,13 +1,13 @@
 -- What a round is seen as while it goes on: its part, and what it did so far.
 use Rattle.std.specs.Prelude.{⊤, ℕ, Bool, List, [], ◌∷◌, ◌++◌}
-use Rattle.up_host.specs.Calls.{Calls, with_entry, with_failure, emptied}
-use Rattle.up_host.specs.declared.happened.Happened.{Happened}
+use Rattle.up_edge.specs.Calls.{Calls, with_entry, with_failure, emptied}
+use Rattle.up_edge.specs.declared.happened.Happened.{Happened}
 use Rattle.up_model.specs.declared.input.Input.{Input}
 use Rattle.up_model.specs.declared.loaded.Loaded.{Loaded}
 use Rattle.up_model.specs.declared.output.Output.{Output}
 use Rattle.up_daemon.specs.Connected.{AreConnected}
 use Rattle.up_daemon.specs.Peers.{Peer, numbers_of}
-use Rattle.up_daemon.specs.declared.passed.Passed.{Passed}
+use Rattle.up_edge.specs.declared.passed.Passed.{Passed}
 
 -- The part of a round: the clock is to be read; ends are looked for; clients are let in; these are still to be read; requests enter; the
 -- queue of events has turned so many times; these are still to be written to. Or the client with this number is to be closed first.

@@ -2,8 +2,8 @@
 use Rattle.std.specs.Prelude.{◌≡◌, ◌≢◌, ◌≤◌, ◌<◌, ◌+◌, ◌⊎◌, ℕ, List, [], ◌∷◌, ◌++◌, None, Some, length, take, drop}
 use Rattle.std.specs.List.{AllByRecursion}
 use Rattle.up_stanza.specs.declared.process.Process.{Process}
-use Rattle.up_host.specs.Calls.{Calls}
-use Rattle.up_host.specs.declared.happened.Happened.TheVariants as happened
+use Rattle.up_edge.specs.Calls.{Calls}
+use Rattle.up_edge.specs.declared.happened.Happened.TheVariants as happened
 use Rattle.up_model.specs.Answers.{answer, after_all}
 use Rattle.up_model.specs.Chronicle.{Chronicle}
 use Rattle.up_model.specs.Configuration.{Configuration}
@@ -28,7 +28,7 @@ use Rattle.up_daemon.specs.Hearing.{most_waiting, IsPiece, IsBroken}
 use Rattle.up_daemon.specs.Peers.{Peer, newcomer, heard, IsAtRest, IsEntered, IsQueued, IsNobody, last_number}
 use Rattle.up_daemon.specs.RoundStates.{Part, ReadingClock, FindingEnds, LettingIn, ReadingFrom, TakingRequests, TakingTurns, WritingTo, ClosingOf, HasOrders, DaemonState, HasItsClients, RoundState, opened, closed, with_input, host_did, host_failed, door_did, door_failed, with_left, with_clients, with_last}
 use Rattle.up_daemon.specs.Visits.{most_clients}
-use Rattle.up_daemon.specs.declared.passed.Passed.TheVariants as passed
+use Rattle.up_edge.specs.declared.passed.Passed.TheVariants as passed
 
 -- the most turns of a round
 abbrev pub most_turns : ℕ

@@ -1,8 +1,8 @@
 -- How the parts of a round see what it did so far, from its door and its clients.
 use Rattle.std.specs.Prelude.{ℕ, Bool, true, false, List, ◌∷◌}
-use Rattle.up_host.specs.Calls.{Calls}
+use Rattle.up_edge.specs.Calls.{Calls}
 use Rattle.up_daemon.specs.declared.clients.client.Client.{Client}
-use Rattle.up_daemon.specs.declared.passed.Passed.{Passed}
+use Rattle.up_edge.specs.declared.passed.Passed.{Passed}
 use Rattle.up_daemon.specs.Peers.{peer_of, peers_of}
 use Rattle.up_daemon.specs.RoundStates.{RoundState, with_last}
 

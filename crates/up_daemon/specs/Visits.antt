@@ -1,9 +1,9 @@
 -- Who is let in.
 use Rattle.std.specs.Prelude.{◌≡◌, ◌++◌, ◌∷◌, ◌⊎◌, ℕ, Bool, true, false, List, [], None, Some}
-use Rattle.up_host.specs.Calls.{Calls, with_entry, with_failure}
+use Rattle.up_edge.specs.Calls.{Calls, with_entry, with_failure}
 use Rattle.up_daemon.specs.declared.clients.client.Client.{Client}
-use Rattle.up_daemon.specs.declared.passed.Passed.{Passed}
-use Rattle.up_daemon.specs.declared.passed.Passed.TheVariants.{Accepted}
+use Rattle.up_edge.specs.declared.passed.Passed.{Passed}
+use Rattle.up_edge.specs.declared.passed.Passed.TheVariants.{Accepted}
 
 -- the most clients that are connected
 abbrev pub most_clients : ℕ

@@ -1,9 +1,9 @@
 -- What the work of a daemon is seen as: an engine that answers, and a round that goes on.
 use Rattle.std.specs.Prelude.{◌≡◌, ◌++◌, ◌∷◌, ◌⊎◌, ℕ, Bool, true, false, List, [], reverse}
 use Rattle.std.specs.List.{AllByRecursion}
-use Rattle.up_host.specs.Calls.{Calls, with_entry, with_failure}
-use Rattle.up_host.specs.declared.happened.Happened.{Happened}
-use Rattle.up_host.specs.declared.happened.Happened.TheVariants.{Spawned, Signalled}
+use Rattle.up_edge.specs.Calls.{Calls, with_entry, with_failure}
+use Rattle.up_edge.specs.declared.happened.Happened.{Happened}
+use Rattle.up_edge.specs.declared.happened.Happened.TheVariants.{Spawned, Signalled}
 use Rattle.up_engine.specs.declared.engine.Engine.{Engine}
 use Rattle.up_engine.specs.Stands.{Stands}
 use Rattle.up_model.specs.declared.input.Input.{Input}
@@ -14,7 +14,7 @@ use Rattle.up_model.specs.declared.who.Who.{Who}
 use Rattle.up_model.specs.Answers.{answer, after_all}
 use Rattle.up_model.specs.Chronicle.{Chronicle}
 use Rattle.up_model.specs.Configuration.{Configuration}
-use Rattle.up_daemon.specs.declared.passed.Passed.{Passed}
+use Rattle.up_edge.specs.declared.passed.Passed.{Passed}
 use Rattle.up_daemon.specs.declared.work.Work.{Work}
 use Rattle.up_daemon.specs.Answering.{outputs_in}
 use Rattle.up_daemon.specs.Peers.{peers_of, numbers_of, IsAtRest, last_number}

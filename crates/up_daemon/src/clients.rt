@@ -12,10 +12,10 @@ ghost use Rattle.up_model.specs.Configuration.{Configuration};
 
 mod client;
 
-use crate::door::Door;
 use client::Client;
 use std::alloc::{AllocError, Global};
 use std::mem;
+use up_edge::Door;
 use up_model::{Answer, Request};
 
 /// The most clients that are connected.

@@ -5,20 +5,18 @@ ghost use Rattle.up_daemon.specs.Rounds.{IsRound};
 ghost use Rattle.up_daemon.specs.RoundStates.{WritingTo, DaemonState, HasItsClients, opened};
 ghost use Rattle.up_daemon.specs.Working.{IsAt, state_of, numbers_in};
 ghost use Rattle.up_engine.specs.Stands.{Stands, IsDown};
-ghost use Rattle.up_host.specs.Calls.{emptied};
+ghost use Rattle.up_edge.specs.Calls.{emptied};
 ghost use Rattle.up_model.specs.Chronicle.{Chronicle};
 ghost use Rattle.up_model.specs.Configuration.{Configuration};
 
 use crate::clients::Clients;
-use crate::door::Door;
 use crate::error::DaemonError;
 use crate::log::{Log, Round};
-use crate::source::Source;
 use crate::work::Work;
 use std::alloc::{AllocError, Global};
 use std::mem;
+use up_edge::{Door, Host, Source};
 use up_engine::Engine;
-use up_host::Host;
 
 /// An engine between a host, a door and a source of configurations, which works in rounds.
 #[derive(Drop)]

@@ -2,22 +2,20 @@
 ghost use Rattle.std.specs.Prelude.{◌≡◌, ◌<◌, [], IfOk, OnOk, true, false};
 ghost use Rattle.up_daemon.specs.Asking.{IsAsked};
 ghost use Rattle.up_daemon.specs.Connected.{AreConnected};
-ghost use Rattle.up_daemon.specs.declared.passed.Passed.{Passed};
+ghost use Rattle.up_edge.specs.declared.passed.Passed.{Passed};
 ghost use Rattle.up_daemon.specs.Peers.{peers_of};
 ghost use Rattle.up_daemon.specs.Rounds.{Reaches};
 ghost use Rattle.up_daemon.specs.RoundStates.{ReadingClock, FindingEnds, LettingIn, TakingRequests, TakingTurns, WritingTo, DaemonState, HasItsClients, with_clients};
 ghost use Rattle.up_daemon.specs.Working.{part_after, IsAt, Leads};
-ghost use Rattle.up_host.specs.Calls.{Calls};
-ghost use Rattle.up_host.specs.declared.happened.Happened.{Happened};
+ghost use Rattle.up_edge.specs.Calls.{Calls};
+ghost use Rattle.up_edge.specs.declared.happened.Happened.{Happened};
 ghost use Rattle.up_model.specs.Chronicle.{Chronicle};
 ghost use Rattle.up_model.specs.Configuration.{Configuration};
 ghost use Rattle.up_model.specs.declared.loaded.Loaded.{Loaded};
 
-use crate::door::Door;
-use crate::source::Source;
 use crate::work::Work;
 use std::alloc::AllocError;
-use up_host::Host;
+use up_edge::{Door, Host, Source};
 use up_model::{Command, Input, Loaded, Request};
 
 /// The most turns of a round.

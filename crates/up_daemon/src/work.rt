@@ -1,12 +1,12 @@
 //! The work of a daemon: an input is fed to the engine, and its orders are carried out.
 ghost use Rattle.std.specs.Prelude.{◌≡◌, ◌≤◌, ◌<◌, ◌+◌, ◌∷◌, ℕ, [], List, true, None, Err, alloc_error, reverse, IfOk, OnOk, MatchOption};
 ghost use Rattle.up_daemon.specs.Answering.{IsAnswered};
-ghost use Rattle.up_daemon.specs.declared.passed.Passed.{Passed};
+ghost use Rattle.up_edge.specs.declared.passed.Passed.{Passed};
 ghost use Rattle.up_daemon.specs.Rounds.{ran, ran_not};
 ghost use Rattle.up_daemon.specs.RoundStates.{Part, DaemonState, HasOrders};
 ghost use Rattle.up_daemon.specs.Working.{IsStarted, IsSent};
 ghost use Rattle.up_engine.specs.Stands.{Stands, IsDown, left_of};
-ghost use Rattle.up_host.specs.Calls.{Calls};
+ghost use Rattle.up_edge.specs.Calls.{Calls};
 ghost use Rattle.up_model.specs.Answers.{after_all};
 ghost use Rattle.up_model.specs.Chronicle.{Chronicle};
 ghost use Rattle.up_model.specs.Configuration.{Configuration};
@@ -18,8 +18,8 @@ use crate::clients::Clients;
 use crate::copies::push_copies;
 use crate::log::Log;
 use std::alloc::{AllocError, Global};
+use up_edge::Host;
 use up_engine::{Engine, StepError};
-use up_host::Host;
 use up_model::{Input, Order, Output, Who};
 
 /// What a daemon works with: its engine, its clients, and what the round did so far.

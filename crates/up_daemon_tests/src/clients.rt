@@ -2,8 +2,7 @@
 use crate::stage::{Scene, door, host, make_scene, same};
 use std::alloc::{AllocError, Global};
 use std::test::Fail;
-use up_daemon::{Door, Passed, ScriptDoor, Visitor};
-use up_host::{Failure, ScriptHost};
+use up_edge::{Door, Failure, Passed, ScriptDoor, ScriptHost, Visitor};
 use up_text::Items;
 
 /// The request `reload database`, which is refused at once: there is no such job.

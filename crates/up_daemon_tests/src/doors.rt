@@ -4,8 +4,7 @@ use crate::hosts::late_host;
 use crate::stage::{Scene, make_scene, same};
 use std::alloc::{AllocError, Global};
 use std::test::Fail;
-use up_daemon::{Door, ScriptDoor, Visitor};
-use up_host::{Failure, Host};
+use up_edge::{Door, Failure, Host, ScriptDoor, Visitor};
 
 // Two clients of whom each asks once; the second goes then.
 fn push_two(alloc: Global, visits: &mut Vec<Option<Visitor>>) -> Result<(), AllocError> {

@@ -5,7 +5,7 @@ use crate::stage::{
 use std::alloc::{AllocError, Global};
 use std::test::Fail;
 use up_daemon::{DaemonError, Round};
-use up_host::{Failure, Host, ScriptHost};
+use up_edge::{Failure, Host, ScriptHost};
 
 // How often the processes of some rounds ran, were refused and ended.
 type Counts = (usize, usize, usize);

@@ -4,8 +4,7 @@ use crate::stage::{End, Scene, exit_of, host, make_idle_scene, same};
 use crate::waiting::has_written;
 use std::alloc::{AllocError, Global};
 use std::test::Fail;
-use up_daemon::{ScriptDoor, Visitor};
-use up_host::{Failure, ScriptHost};
+use up_edge::{Failure, ScriptDoor, ScriptHost, Visitor};
 use up_model::Process;
 
 /// A job with a process before its main one.

@@ -4,7 +4,7 @@ use crate::stage::{Scene, make_scene, same, table_of, with_loads};
 use crate::waiting::has_written;
 use std::alloc::Global;
 use std::test::Fail;
-use up_daemon::{Source, SourceFault};
+use up_edge::{Source, SourceFault};
 use up_model::Loaded;
 
 // What a source gives at its call.

@@ -4,7 +4,7 @@ use crate::hosts::late_host;
 use crate::stage::{Scene, make_scene, same};
 use std::alloc::Global;
 use std::test::Fail;
-use up_daemon::{Door, Passed, ScriptDoor};
+use up_edge::{Door, Passed, ScriptDoor};
 
 /// The request `stop a`, whose client waits for the answer.
 const STOP: [u8; 11] = [0, 0, 0, 7, 2, 0, 0, 1, 97, 0, 0];

@@ -5,7 +5,7 @@ use std::io::ErrorKind;
 use std::test::Fail;
 use std::time::{Duration, Instant};
 use std::{fs, io, thread};
-use up_host::{Happened, Host, HostFault, RealHost};
+use up_edge::{Happened, Host, HostFault, RealHost};
 use up_model::{How, Order, Process};
 
 type System = RealHost<HostRuntime>;

@@ -8,7 +8,7 @@ use std::process::{Child, Command, ExitStatus, OpenProcess, Processes, Stdio};
 use std::rt::Clock;
 use std::test::Fail;
 use std::time::Duration;
-use up_host::{Host, HostFault, RealHost};
+use up_edge::{Host, HostFault, RealHost};
 use up_model::How;
 
 #[derive(Drop)]

@@ -7,9 +7,9 @@ use std::fs::remove_file;
 use std::io::{ErrorKind, Read, Write};
 use std::test::Fail;
 use up_conf::Folder;
-use up_daemon::{Daemon, ScriptSource, UnixDoor};
+use up_daemon::Daemon;
+use up_edge::{RealHost, ScriptSource, UnixDoor};
 use up_engine::Engine;
-use up_host::RealHost;
 use up_image::{Table, compile};
 use up_text::{Env, Items, Text};
 

@@ -1,4 +1,4 @@
-//! The tests of `up_host` and of `up_daemon`'s doors, over their public interfaces: real children, real sockets, and scripts.
+//! The tests of `up_edge`, over its public interface: real children, real sockets, and scripts; and of a daemon over them.
 #![tactic(auto)]
 
 #[cfg(test)]

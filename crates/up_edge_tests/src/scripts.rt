@@ -2,8 +2,9 @@
 use crate::orders::{same, shell, who};
 use std::alloc::Global;
 use std::test::Fail;
-use up_daemon::{Door, DoorFault, ScriptDoor, Visitor};
-use up_host::{Failure, Failures, Host, HostFault, Script, ScriptHost};
+use up_edge::{
+    Door, DoorFault, Failure, Failures, Host, HostFault, Script, ScriptDoor, ScriptHost, Visitor,
+};
 use up_model::{How, Process, Who};
 use up_text::Items;
 

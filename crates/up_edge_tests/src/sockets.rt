@@ -7,7 +7,7 @@ use std::os::unix::fs::{DirBuilderExt, PermissionsExt};
 use std::os::unix::net::UnixListener;
 use std::test::Fail;
 use std::time::{Duration, Instant};
-use up_daemon::{Door, DoorFault, SocketFault, UnixDoor};
+use up_edge::{Door, DoorFault, SocketFault, UnixDoor};
 
 fn bind(rt: &HostRuntime, path: &str) -> Result<UnixDoor, SocketFault> {
     UnixDoor::bind(rt, rt.alloc(), path)

@@ -2,7 +2,7 @@
 use Rattle.std.proofs.Common.{◌≡◌, ◌+◌, ◌++◌, ◌<◌, ℕ, List, length, take, drop, map, set, get_or, subst, sym, refl, ◌∙◌, ap, [], ◌∷◌}
 use Rattle.std.proofs.lemmas.List.{take_more}
 use Rattle.std.proofs.lemmas.List.Edits.{map_over_more}
-use Rattle.up_daemon.specs.declared.passed.Passed.{Passed}
+use Rattle.up_edge.specs.declared.passed.Passed.{Passed}
 use Rattle.up_run.specs.declared.silence.Silence.{Silence}
 use Rattle.up_run.specs.Silences.{Notes, NotesAll}
 

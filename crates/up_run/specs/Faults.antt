@@ -2,10 +2,10 @@
 use Rattle.std.specs.Prelude.{ℕ, ◌==◌, zero, suc, Bool, true, false, ◌&&◌, ◌||◌, nat_lt, if◌then◌else◌, List, [], ◌++◌, codes, Some, None}
 use Rattle.std.specs.Fmt.{decimal}
 use Rattle.std.specs.List.{flat_map}
-use Rattle.up_daemon.specs.declared.call.DoorCall.{DoorCall}
-use Rattle.up_daemon.specs.declared.call.DoorCall.TheVariants as call
-use Rattle.up_host.specs.declared.happened.Happened.{Happened}
-use Rattle.up_host.specs.declared.happened.Happened.TheVariants.{Spawned, Polled, Signalled, Now}
+use Rattle.up_edge.specs.declared.door_call.DoorCall.{DoorCall}
+use Rattle.up_edge.specs.declared.door_call.DoorCall.TheVariants as call
+use Rattle.up_edge.specs.declared.happened.Happened.{Happened}
+use Rattle.up_edge.specs.declared.happened.Happened.TheVariants.{Spawned, Polled, Signalled, Now}
 use Rattle.up_model.specs.declared.input.Input.{Input}
 use Rattle.up_model.specs.declared.input.Input.TheVariants as input
 use Rattle.up_run.specs.declared.faults.HostFaults.{HostFaults}

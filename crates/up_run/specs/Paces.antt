@@ -2,8 +2,8 @@
 use Rattle.std.specs.Prelude.{ℕ, ◌==◌, ◌+◌, ◌-◌, ◌/◌, ◌^◌, nat_lt, nat_le, Bool, true, false, ◌&&◌, ◌||◌, if◌then◌else◌, min, max, length, List, None, Some}
 use Rattle.std.specs.List.{list_all}
 use Rattle.up_daemon.specs.declared.log.Round.{Round}
-use Rattle.up_daemon.specs.declared.passed.Passed.{Passed}
-use Rattle.up_daemon.specs.declared.passed.Passed.TheVariants.{Accepted, Read, Wrote, Closed}
+use Rattle.up_edge.specs.declared.passed.Passed.{Passed}
+use Rattle.up_edge.specs.declared.passed.Passed.TheVariants.{Accepted, Read, Wrote, Closed}
 use Rattle.up_model.specs.declared.output.Output.{Output}
 use Rattle.up_run.specs.declared.pace.TheConstants.{GROWTH, SHORT_PAUSES}
 

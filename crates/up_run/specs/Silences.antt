@@ -2,12 +2,12 @@
 use Rattle.std.specs.Prelude.{◌≡◌, ◌⊎◌, ℕ, ◌-◌, ◌==◌, Bool, not, ◌&&◌, nat_lt, nat_le, if◌then◌else◌, List, [], ◌∷◌, ◌++◌, Option, Some, None, set}
 use Rattle.std.specs.List.{filter, find, position}
 use Rattle.up_daemon.specs.declared.daemon.Daemon.{Daemon}
-use Rattle.up_daemon.specs.declared.passed.Passed.{Passed}
-use Rattle.up_daemon.specs.declared.passed.Passed.TheVariants.{Accepted, Read, Wrote, Closed}
+use Rattle.up_edge.specs.declared.passed.Passed.{Passed}
+use Rattle.up_edge.specs.declared.passed.Passed.TheVariants.{Accepted, Read, Wrote, Closed}
 use Rattle.up_daemon.specs.Daemons.{clients_of}
 use Rattle.up_daemon.specs.Peers.{one_waits}
-use Rattle.up_host.specs.declared.happened.Happened.{Happened}
-use Rattle.up_host.specs.declared.happened.Happened.TheVariants.{Spawned, Polled, Signalled, Now}
+use Rattle.up_edge.specs.declared.happened.Happened.{Happened}
+use Rattle.up_edge.specs.declared.happened.Happened.TheVariants.{Spawned, Polled, Signalled, Now}
 use Rattle.up_run.specs.declared.silence.Silence.{Silence}
 
 -- a client that has been silent since then has been so for too long, unless it may be silent for ever

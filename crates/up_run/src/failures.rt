@@ -4,7 +4,7 @@ use std::io;
 use std::io::{Eprint, ErrorKind};
 use up_daemon::Round;
 use up_disk::why::Reason;
-use up_host::Refusal;
+use up_edge::Refusal;
 use up_model::{Event, Input, Output, Process, Who, process_name};
 use up_text::Env;
 

@@ -5,8 +5,7 @@ ghost use Rattle.std.specs.List.{count_by, flat_map, list_any};
 ghost use Rattle.up_run.specs.Faults.{are_some, call_name, door_line, fault_count, fault_line, fault_lines, is_last_poll, is_reading, is_refusal, none_failed, number, repeated, tally};
 
 use std::alloc::{AllocError, Global};
-use up_daemon::DoorCall;
-use up_host::Happened;
+use up_edge::{DoorCall, Happened};
 use up_model::Input;
 
 /// The calls of a host that failed in a round.

@@ -4,7 +4,8 @@ ghost use Rattle.std.specs.List.{list_all};
 ghost use Rattle.up_run.specs.Paces.{gave_nothing, is_idle, is_nothing, is_short, longer, pause_of};
 ghost use Rattle.up_run.specs.declared.pace.TheConstants.{FIRST_PAUSE, GROWTH, SHORT_PAUSES};
 
-use up_daemon::{Passed, Round};
+use up_daemon::Round;
+use up_edge::Passed;
 use up_model::Output;
 use up_text::Items;
 

@@ -4,8 +4,8 @@ ghost use Rattle.std.specs.List.{position};
 ghost use Rattle.up_run.specs.Silences.{Begins, excused, first_over, is_of, is_over, Names, Notes, NotesAll, reading_in, without};
 
 use std::alloc::Global;
-use up_daemon::{Daemon, Passed};
-use up_host::Happened;
+use up_daemon::Daemon;
+use up_edge::{Happened, Passed};
 
 /// How long a client may be silent if a run is not told otherwise, in seconds.
 pub const MOST_SILENCE: u64 = 60;

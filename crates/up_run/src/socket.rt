@@ -6,8 +6,8 @@ use std::net::Net;
 use std::os::unix::fs::FileTypeExt;
 use std::os::unix::net::UnixStream;
 use std::rt::Files;
-use up_daemon::SocketFault;
 use up_disk::why::{say, say_error};
+use up_edge::SocketFault;
 
 // What is at a path at which nothing may be yet.
 fn obstacle<R: Files + Net>(rt: &R, path: &str) -> Option<&'static str> {

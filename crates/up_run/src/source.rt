@@ -1,7 +1,7 @@
 //! The configuration of a run, which is read again when a client asks for it.
 ghost use Rattle.std.specs.Prelude.{◌≡◌, IfOk, IfSome};
-ghost use Rattle.up_host.specs.Calls.{no_calls, with_failure};
-ghost use Rattle.up_host.specs.Journals.{calls_of};
+ghost use Rattle.up_edge.specs.Calls.{no_calls};
+ghost use Rattle.up_edge.specs.Journals.{calls_of};
 ghost use Rattle.up_run.specs.Reloads.{LoadsFiles, LoadsImage, LoadsPath};
 
 use std::alloc::{AllocError, Global};
@@ -9,11 +9,10 @@ use std::fs;
 use std::io::{Eprint, ErrorKind};
 use std::rt::Files;
 use up_conf::{Fault, Folder};
-use up_daemon::{Source, SourceFault};
 use up_disk::image::read_bytes;
 use up_disk::walk::{WalkError, walk};
 use up_disk::why::{say, say_error};
-use up_host::Journal;
+use up_edge::{Journal, Source, SourceFault, report_load};
 use up_image::{CompileError, ImageError, Table, compile};
 use up_model::Loaded;
 
@@ -152,33 +151,16 @@ impl<'a, R> PathSource<'a, R> {
             journal: Journal::new(alloc),
         }
     }
-
-    // Counts a call that failed.
-    fn fail_call(&mut self) -> SourceFault
-        ensures { calls_of self.new.journal ≡ with_failure (calls_of self.old.journal) }
-    {
-        self.journal.count_fault();
-        SourceFault
-    }
 }
 
 impl<R: Files + Eprint + AllocGlobal + Clone + Drop> Source for PathSource<'_, R> {
-    ghost use Rattle.up_host.specs.Journals.{calls_of};
+    ghost use Rattle.up_edge.specs.Journals.{calls_of};
 
     ghost calls = { λ source. calls_of source.journal };
 
     fn load(&mut self) -> Result<Loaded, SourceFault> {
-        let Ok(Some(loaded)) = load_path(self.rt, self.path) else {
-            return Err(self.fail_call());
-        };
-        let Ok(told) = loaded.copy(self.alloc) else {
-            return Err(self.fail_call());
-        };
-        if !self.journal.make_room() {
-            return Err(self.fail_call());
-        }
-        self.journal.add(told);
-        Ok(loaded)
+        let found = load_path(self.rt, self.path).unwrap_or(None);
+        report_load(&mut self.journal, self.alloc, found)
     }
 
     fn faults(&self) -> u64 {

@@ -1,11 +1,11 @@
 //! A client of the daemon: what it said that has not entered the engine, and what waits to be written to it.
 ghost use Rattle.std.specs.Prelude.{◌≡◌, ◌≤◌, ◌<◌, [], None, IfOk, OnOk, IfSome, length, take, option_map};
-ghost use Rattle.up_daemon.specs.Connected.{SameClients};
+ghost use Rattle.up_edge.specs.Connecting.{SameClients};
 ghost use Rattle.up_daemon.specs.Hearing.{Hears, Enters, IsAnswered, IsTaken, IsPassedOver, IsReadOnce, IsWrittenOnce, most_waiting};
 ghost use Rattle.up_daemon.specs.Peers.{peer_of, is_ready, is_waiting, waits};
 
-use crate::door::Door;
 use std::alloc::{AllocError, Global};
+use up_edge::Door;
 use up_model::{Answer, Request};
 use up_wire::{Feed, WireFault, write_answer};
 

@@ -1,5 +1,5 @@
 use Rattle.std.proofs.Common.{◌≡◌, [], refl}
-use Rattle.up_host.specs.Calls.{emptied}
+use Rattle.up_edge.specs.Calls.{emptied}
 use Rattle.up_daemon.specs.Answering.{Told}
 use Rattle.up_daemon.specs.Daemons.{daemon_state}
 use Rattle.up_daemon.specs.RoundStates.{WritingTo, opened}

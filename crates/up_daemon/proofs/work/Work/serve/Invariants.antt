@@ -1,6 +1,6 @@
 use Rattle.std.proofs.Common.{◌≡◌, []}
-use Rattle.up_host.specs.Calls.{Calls}
-use Rattle.up_daemon.specs.declared.passed.Passed.{Passed}
+use Rattle.up_edge.specs.Calls.{Calls}
+use Rattle.up_edge.specs.declared.passed.Passed.{Passed}
 use Rattle.up_daemon.specs.Ending.{waiting_of}
 use Rattle.up_daemon.specs.RoundStates.{TakingRequests}
 use Rattle.up_daemon.specs.Working.{Leads, state_of, numbers_in}

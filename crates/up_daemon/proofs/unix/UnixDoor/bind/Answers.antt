@@ -1,6 +1,0 @@
--- for the gate's time alone: without it a wrong body is gone over once more, to offer an answer
-use Rattle.std.proofs.Common.{rules}
-use Rattle.up_daemon.proofs.unix.UnixDoor.bind.Goals as goal
-
-pub returns-in-Some-clause-refused : goal.returns-in-Some-clause-refused
-returns-in-Some-clause-refused c = search rules

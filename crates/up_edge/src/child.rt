@@ -1,0 +1,123 @@
+//! The children of a real host.
+ghost use Rattle.std.specs.Prelude.{◌≡◌, ◌<◌, length, true, IfSome, None};
+ghost use Rattle.std.specs.Bool.{OnTrue};
+ghost use Rattle.std.specs.List.{All, HoldsAt};
+ghost use Rattle.up_edge.specs.Ends.{byte_of, end_of};
+ghost use Rattle.up_edge.specs.Looking.{LooksOn};
+
+use std::os::unix::process::ExitStatusExt;
+use std::process::{Child, ExitStatus, OpenProcess};
+use up_model::{How, Process, Who};
+
+/// How many children a look is at, if there are so many.
+const LEAST_LOOKS: usize = 16;
+
+/// How many looks are at all children, if there are more.
+const PARTS: usize = 6;
+
+/// A process that was started and whose end was not reported.
+#[derive(Drop)]
+pub(crate) struct Running<P: OpenProcess> {
+    pub who: Who,
+    pub process: Process,
+    // the number by which it is signalled
+    pub pid: u32,
+    pub child: Child<P>,
+}
+
+/// What a look at the children found.
+pub(crate) enum Look {
+    /// The child at the place of the next look has ended so.
+    Ended(How),
+    /// No child that was looked at has ended.
+    Nothing,
+    /// The system refused to tell of a child.
+    Failed,
+}
+
+// A number from 0 to 255, or 0 for any other.
+fn byte_of(number: i32) -> u8
+    ensures { result ≡ byte_of number }
+{
+    u8::try_from(number).unwrap_or(0)
+}
+
+/// How a process ended: by the code of its exit, or by a signal, of which an unknown one is 0.
+pub(crate) fn end_of(status: &ExitStatus) -> How
+    ensures { result ≡ end_of status.now }
+{
+    match status.code() {
+        Some(code) => How::Exit(byte_of(code)),
+        None => match status.signal() {
+            Some(signal) => How::Signal(byte_of(signal)),
+            None => How::Signal(0),
+        },
+    }
+}
+
+// The place before which a look ends that begins here: it is at a sixth of the children, but at 16 at least.
+fn look_end(count: usize, next: usize) -> usize
+    ensures { next < 18446744073709551615 → next < result }
+{
+    next.saturating_add(LEAST_LOOKS.max(count.div_ceil(PARTS)))
+}
+
+/// Looks at some of the children from `next` on, up to one that has ended; the next look goes on from there, and after the last child from
+/// the first. So one that ends is found by the sixth look at the latest, and a look takes little time even among many.
+pub(crate) fn find_end<P: OpenProcess>(children: &mut [Running<P>], next: &mut usize) -> Look
+    ensures { LooksOn result next.old next.new (length children.old) }
+{
+    let end = look_end(children.len(), *next);
+    while *next < end && *next < children.len() {
+        match children[*next].child.try_wait() {
+            Ok(Some(status)) => return Look::Ended(end_of(&status)),
+            Ok(None) => *next += 1,
+            Err(_) => {
+                *next += 1;
+                return Look::Failed;
+            }
+        }
+    }
+    if *next >= children.len() {
+        *next = 0;
+    }
+    Look::Nothing
+}
+
+/// Lets go of the helpers that have ended.
+pub(crate) fn reap<P: OpenProcess + Drop>(helpers: &mut Vec<Child<P>>) {
+    let mut place = 0;
+    while place < helpers.len() {
+        match helpers[place].try_wait() {
+            Ok(None) => place += 1,
+            Ok(Some(_)) | Err(_) => drop(helpers.swap_remove(place)),
+        }
+    }
+}
+
+// Whether both are the same instance of a job.
+fn is_same(one: &Who, other: &Who) -> bool
+    ensures same { OnTrue result (one.now ≡ other.now) }
+    ensures differs { one.now ≡ other.now → result ≡ true }
+{
+    one.job.as_str() == other.job.as_str() && one.instance.is(other.instance.as_str())
+}
+
+/// The place of the child with this name and number.
+pub(crate) fn place_of<P: OpenProcess>(
+    children: &[Running<P>],
+    who: &Who,
+    pid: u32,
+) -> Option<usize>
+    ensures within { IfSome result (λ place. place < length children.now) }
+    ensures child { IfSome result (λ place. HoldsAt (λ running. (running.who ≡ who.now)
+        × (running.pid ≡ pid)) children.now place) }
+    ensures none { result ≡ None → All (λ running. running.who ≡ who.now → running.pid ≡ pid → ⊥) children.now }
+{
+    for (place, running) in children.iter().enumerate() {
+        if running.pid == pid && is_same(&running.who, who) {
+            return Some(place);
+        }
+    }
+    None
+}

@@ -1,6 +1,0 @@
--- for the gate's time alone: without it a wrong body is gone over once more, to offer an answer
-use Rattle.std.proofs.Common.{rules}
-use Rattle.up_host.proofs.failure.Failures.next_fails.Goals as goal
-
-pub returns-clause-call : goal.returns-clause-call
-returns-clause-call c = search rules

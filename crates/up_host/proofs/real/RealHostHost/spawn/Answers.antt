@@ -1,6 +1,0 @@
--- for the gate's time alone: without it a wrong body is gone over once more, to offer an answer
-use Rattle.std.proofs.Common.{rules}
-use Rattle.up_host.proofs.real.RealHostHost.spawn.Goals as goal
-
-pub returns-in-Some-clause-lives : goal.returns-in-Some-clause-lives
-returns-in-Some-clause-lives c = search rules

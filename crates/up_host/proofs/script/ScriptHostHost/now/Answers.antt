@@ -1,6 +1,0 @@
--- for the gate's time alone: without it a wrong body is gone over once more, to offer an answer
-use Rattle.std.proofs.Common.{rules}
-use Rattle.up_host.proofs.script.ScriptHostHost.now.Goals as goal
-
-pub returns-clause-reports : goal.returns-clause-reports
-returns-clause-reports c = search rules
