@@ -1,5 +1,5 @@
 -- What a load makes of a setup.
-use Rattle.std.proofs.Common.{◌≡◌, ◌<◌, ◌+◌, ◌∙◌, ℕ, Bool, true, false, not, ◌&&◌, nat_lt, ltb-true, lt-ltb, take, List, [], ◌∷◌, ◌++◌, Option, None, Some, is_some, drop, length, map, filter, get_or, if◌then◌else◌, add-one, drop-cons, ap, refl, sym, subst, arith}
+use Rattle.std.proofs.Common.{◌≡◌, ◌<◌, ◌+◌, ◌∙◌, ℕ, Bool, true, false, not, ◌&&◌, nat_lt, lt-ltb, take, List, [], ◌∷◌, ◌++◌, Option, None, Some, is_some, drop, length, get_or, add-one, drop-cons, ap, refl, sym, subst, arith}
 use Rattle.std.proofs.lemmas.Grind.{take_at_read}
 use Rattle.std.specs.List.{AllByRecursion}
 use Rattle.up_conf.specs.declared.job.JobDef.{JobDef}
@@ -16,7 +16,6 @@ use Rattle.up_model.specs.Files.{job_names}
 use Rattle.up_model.proofs.LoadLaws.{LoadsNothing, NoneNamed, found-none, distinct-both, sorted-order, order-distinct}
 use Rattle.up_model.proofs.LoadLaws as model
 use Rattle.up_text.specs.Scripts.{is_filled}
-use Rattle.std.proofs.Common.{bytes_eq}
 
 -- the jobs that go on of those from one on
 pub going_kept : (new jobs : List JobDef) (i : ℕ) (job : JobDef) (c : Chronicle) → i < length jobs → job ≡ get_or jobs i job → goes_on new c job ≡ true

@@ -1,8 +1,8 @@
 -- The environment by which an instance starts.
-use Rattle.std.proofs.Common.{◌≡◌, ℕ, Option, None, Some, List, Ok, inl, inr, sym, ◌∙◌, ap}
+use Rattle.std.proofs.Common.{◌≡◌, ℕ, None, Some, List, Ok, inl, inr, sym, ◌∙◌, ap}
 use Rattle.up_conf.specs.declared.job.JobDef.{JobDef}
 use Rattle.up_model.specs.Chronicle.{Chronicle}
-use Rattle.up_model.specs.Commands.{Target, Concerns, target_as}
+use Rattle.up_model.specs.Commands.{Concerns, target_as}
 use Rattle.up_model.specs.Configuration.{Configuration}
 use Rattle.up_model.specs.Environments.{env_by_job, env_of_job, start_base, instance_name}
 use Rattle.up_model.specs.Events.{events_at, events_env}

@@ -1,7 +1,7 @@
-use Rattle.std.proofs.Common.{Vec, Global, ◌≡◌, ◌∙◌, ◌+◌, ◌++◌, ◌∷◌, List, [], drop, sym, ap, subst, arith, append_assoc, append-nil, true}
+use Rattle.std.proofs.Common.{Vec, Global, ◌≡◌, ◌∙◌, ◌+◌, ◌++◌, ◌∷◌, List, [], drop, sym, ap, subst, arith, append_assoc, append-nil}
 use Rattle.std.proofs.lemmas.List.{drop_all}
 use Rattle.up_cascade.proofs.KeyLemmas.{named_there}
-use Rattle.up_cascade.proofs.LoadLemmas.{going_kept, going_dropped, order-without, order-startless, order-left, others-push, is-new}
+use Rattle.up_cascade.proofs.LoadLemmas.{going_kept, going_dropped, order-without, order-startless, order-left, others-push}
 use Rattle.up_cascade.specs.Naming.{name_of}
 use Rattle.up_conf.specs.declared.job.JobDef.{JobDef}
 use Rattle.up_image.specs.declared.job_file.JobFile.{JobFile}

@@ -1,4 +1,3 @@
-use Rattle.std.proofs.Common.{sym, ◌∙◌}
 use Rattle.up_cascade.proofs.LoadLemmas.{filled-count}
 use Rattle.up_model.specs.Instances.{instances_of}
 use Rattle.up_cascade.proofs.setup.has_instances.Goals as goal

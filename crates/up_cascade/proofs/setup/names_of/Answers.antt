@@ -1,4 +1,4 @@
-use Rattle.std.proofs.Common.{◌≡◌, ◌∙◌, ◌+◌, ◌++◌, ◌∷◌, [], take, sym, ap, arith}
+use Rattle.std.proofs.Common.{◌∙◌, ◌++◌, ◌∷◌, [], sym, ap, arith}
 use Rattle.std.proofs.lemmas.List.{take_all}
 use Rattle.up_cascade.proofs.LoadLemmas.{names-one-more}
 use Rattle.up_conf.specs.declared.job.JobDef.{JobDef}
