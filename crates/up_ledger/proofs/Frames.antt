@@ -1,12 +1,10 @@
 -- An entry that doesn't concern an instance leaves all that is known of it.
 use Rattle.std.proofs.Common.{◌≡◌, ℕ, ◌<◌, ◌==◌, Bool, true, false, List, [], ◌∷◌, length, map, refl}
 use Rattle.std.specs.List.{AllByRecursion}
-use Rattle.up_conf.specs.declared.job.JobDef.{JobDef}
 use Rattle.up_model.specs.declared.input.Input.TheVariants as input
 use Rattle.up_model.specs.declared.state.Goal.TheVariants.{Start, Stop}
 use Rattle.up_model.specs.declared.state.State.TheVariants as state
 use Rattle.up_model.specs.Chronicle.{Chronicle, Entry, Given, Queued, Handled, Offered, Fired, Finished, Made, Aimed, Restarted, Released, Failed, Respawned, Entered, Ordered, Signalled, Replied, Loaded, Outside, Entering, Spoilt}
-use Rattle.up_model.specs.Configuration.{Configuration}
 use Rattle.up_model.specs.Instances.{Instance}
 use Rattle.up_model.specs.Readings.{holders}
 use Rattle.up_model.proofs.Places.{older-other}

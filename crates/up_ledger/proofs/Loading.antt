@@ -1,5 +1,5 @@
 -- A load: other jobs come into force, what the `start on` of those before keep is freed, and the instances stay.
-use Rattle.std.proofs.Common.{◌≡◌, ℕ, zero, suc, ◌+◌, ◌<◌, ◌≤◌, Bool, true, false, List, [], ◌∷◌, ◌++◌, length, map, drop, Option, None, Some, is_some, get_or, bytes_eq, if◌then◌else◌, refl, sym, ◌∙◌, ap, subst, arith, add-one, drop-cons}
+use Rattle.std.proofs.Common.{◌≡◌, ℕ, ◌+◌, ◌<◌, ◌≤◌, Bool, true, false, List, [], ◌∷◌, ◌++◌, length, map, drop, Option, None, Some, is_some, get_or, bytes_eq, if◌then◌else◌, refl, sym, ◌∙◌, ap, subst, arith, add-one, drop-cons}
 use Rattle.std.specs.List.{AllByRecursion}
 use Rattle.up_conf.specs.declared.job.JobDef.{JobDef}
 use Rattle.up_event.specs.declared.live.LiveEvent.{LiveEvent}
@@ -10,12 +10,11 @@ use Rattle.up_job.specs.declared.instance.Instance.{Instance as Kept}
 use Rattle.up_job.specs.declared.instances.JobInstances.{JobInstances}
 use Rattle.up_marks.specs.Triggers.{Remembers, kept_by}
 use Rattle.up_marks.specs.declared.mark.Mark.{Mark}
-use Rattle.up_model.specs.Chronicle.{Chronicle, Loaded, StopOn}
+use Rattle.up_model.specs.Chronicle.{Chronicle, Loaded}
 use Rattle.up_model.specs.Configuration.{Configuration, job_named}
 use Rattle.up_model.specs.Instances.{Instance, instances_of}
 use Rattle.up_model.specs.Loads.{with_jobs}
 use Rattle.up_model.specs.Queue.{queue}
-use Rattle.up_model.specs.Seen.{seen}
 use Rattle.up_model.specs.Values.{Bytes}
 use Rattle.up_model.specs.declared.event_id.EventId.{EventId}
 use Rattle.up_model.proofs.LoadLaws.{have-kept, seen-stop}
@@ -26,7 +25,7 @@ use Rattle.up_ledger.specs.Counting.{holder_uses, kept_uses, start_uses, uses}
 use Rattle.up_ledger.specs.Eventing.{standing_of, place_of, holds_of}
 use Rattle.up_ledger.specs.Holding.{freed, changed_by, all_changed, all_kept, as_holders}
 use Rattle.up_ledger.specs.Counting.{event_of}
-use Rattle.up_book.specs.Keeps.{AreDistinct, Keeps, KeepsJobs}
+use Rattle.up_book.specs.Keeps.{AreDistinct, Keeps}
 use Rattle.up_book.specs.Keys.{name_of}
 use Rattle.up_ledger.specs.Remembering.{InstancesRemember, StopsRemember, StartsRemember, Remembered}
 use Rattle.up_ledger.specs.Standing.{Forgets}

@@ -1,10 +1,9 @@
 -- Whom the timer is to kill, and until when nobody.
-use Rattle.std.proofs.Common.{◌≡◌, ℕ, ◌<◌, Bool, false, ◌&&◌, true, List, [], ◌∷◌, ◌++◌, map, Some, refl, sym, ◌∙◌, ap, subst}
+use Rattle.std.proofs.Common.{◌≡◌, ℕ, ◌<◌, Bool, false, ◌&&◌, true, List, [], ◌∷◌, ◌++◌, map, Some, refl, sym, ◌∙◌, ap}
 use Rattle.up_conf.specs.declared.job.JobDef.{JobDef}
 use Rattle.up_stanza.specs.declared.process.Process.TheVariants.{Main}
 use Rattle.up_job.specs.Alarms.{AreFrom, AllFrom}
 use Rattle.up_job.specs.Changes.{child_of}
-use Rattle.up_job.specs.Lists.{nth}
 use Rattle.up_job.specs.Timers.{IsKept}
 use Rattle.up_job.specs.declared.instance.Instance.{Instance as Kept}
 use Rattle.up_job.specs.declared.instance_key.InstanceKey.{InstanceKey}

@@ -1,6 +1,6 @@
 -- What a ledger stands for.
 use Rattle.std.specs.Prelude.{⊤}
-use Rattle.up_book.specs.Hearers.{AreFound}
+use Rattle.up_book.specs.Hearers.{AreFound, HasIndex}
 use Rattle.up_book.specs.Keys.{Mode, Resting, Stepping}
 use Rattle.up_ledger.specs.Standing.{Forgets}
 use Rattle.up_ledger.specs.Steps.{IsStep}

@@ -3,7 +3,7 @@ use Rattle.up_image.specs.Index.{named}
 use Rattle.up_marks.specs.Ruling.{admits}
 use Rattle.up_model.specs.Queue.{queue}
 use Rattle.up_ledger.specs.Eventing.{place_of}
-use Rattle.up_book.specs.Hearers.{IsNextHearer, IsNextJob, has_stop, lesser}
+use Rattle.up_book.specs.Hearers.{IsNextHearer, IsNextJob, has_stop}
 use Rattle.up_book.proofs.NextHearers.{Hearable, lesser-later, next-hearer, next-later}
 use Rattle.up_ledger.proofs.ledger.LedgerBook.next_hearer.Goals as goal
 
