@@ -21,10 +21,9 @@ use Rattle.up_model.specs.Chronicle.{Chronicle}
 use Rattle.up_model.specs.Configuration.{Configuration}
 use Rattle.up_model.specs.Instances.{Instance, instances_of}
 use Rattle.up_model.specs.declared.event.Event.{Event}
-use Rattle.up_book.specs.Hearers.{AreDeaf, IsDeaf, IsFound, AreFound, hears, one_hears, one_stops, has_stop, has_place, lesser, first_from, has_job, IsNextJob, IsNextHearer}
+use Rattle.up_book.specs.Hearers.{AreDeaf, IsDeaf, IsFound, AreFound, hears, one_hears, one_stops, has_stop, has_place, lesser, first_from, has_job, IsNextJob, IsNextHearer, HasIndex}
 use Rattle.up_book.specs.Keeps.{KeepsJobs}
 use Rattle.up_book.specs.Keys.{job_at}
-use Rattle.up_book.specs.Ledgers.{HasIndex}
 use Rattle.up_book.proofs.Keyed.{job-there}
 use Rattle.up_book.specs.Summaries.{Summary, JobSummary, summary, job_summary}
 use Rattle.up_book.specs.Views.{Places, view, job_view}

@@ -1,5 +1,5 @@
 -- The first job with an instance that an event may stop, where each job is asked once.
-use Rattle.std.proofs.Common.{◌≡◌, ℕ, zero, suc, ◌+◌, ◌*◌, ◌<◌, ◌≤◌, ◌==◌, nat_le, Bool, true, false, ◌&&◌, List, [], ◌∷◌, length, drop, Option, Some, get_or, if◌then◌else◌, refl, sym, ◌∙◌, ap, arith, add-one, eqb-true}
+use Rattle.std.proofs.Common.{◌≡◌, ℕ, zero, suc, ◌+◌, ◌*◌, ◌<◌, ◌≤◌, ◌==◌, nat_le, Bool, true, false, ◌&&◌, List, [], ◌∷◌, length, drop, Some, get_or, if◌then◌else◌, refl, sym, ◌∙◌, ap, arith, eqb-true}
 use Rattle.std.proofs.lemmas.Bool.{eqb-false}
 use Rattle.up_image.specs.declared.index.Place.{Place}
 use Rattle.up_marks.specs.Naming.{Rising, rank_of}

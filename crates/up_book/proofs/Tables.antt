@@ -1,28 +1,18 @@
--- What the order of jobs says of their names, and what is kept before anything has happened.
-use Rattle.std.proofs.Common.{◌≡◌, ℕ, zero, suc, ◌+◌, ◌<◌, ◌&&◌, Bool, true, false, List, [], ◌∷◌, ◌++◌, length, map, take, get_or, bytes_eq, Option, Some, slice_index_or, refl, sym, ◌∙◌, ap, subst, arith}
+-- The names of a table: they rise, no two are one, and each finds its job.
+use Rattle.std.proofs.Common.{◌≡◌, ℕ, zero, suc, ◌&&◌, Bool, true, false, List, [], ◌∷◌, map, bytes_eq, Some, refl, ◌∙◌, ap}
 use Rattle.std.specs.List.{AllByRecursion}
 use Rattle.up_conf.specs.declared.job.JobDef.{JobDef}
-use Rattle.up_image.specs.Index.{named}
-use Rattle.up_image.specs.declared.index.Place.{Place}
 use Rattle.up_job.specs.Lists.{nth}
-use Rattle.up_marks.specs.Naming.{of_expression, naming_in, side_of}
-use Rattle.up_book.specs.Ledgers.{HasIndex}
 use Rattle.up_image.specs.Definable.{are_ascending, are_definable, IsTable}
 use Rattle.up_conf.specs.Order.{is_below}
 use Rattle.up_job.specs.Named.{AreInOrder, IsBelowAll}
 use Rattle.up_job.proofs.NamedLemmas.{below_not_same, below_trans}
-use Rattle.up_marks.specs.Triggers.{Remembers}
-use Rattle.up_marks.specs.declared.mark.Mark.{Mark}
-use Rattle.up_model.specs.Configuration.{Configuration}
+use Rattle.up_model.specs.Configuration.{job_named}
 use Rattle.up_model.specs.Values.{Bytes}
-use Rattle.up_model.specs.declared.event_id.EventId.{EventId}
-use Rattle.up_book.specs.Counting.{start_uses}
 use Rattle.up_book.specs.Keeps.{AreDistinct}
 use Rattle.up_book.specs.Keys.{name_of}
-use Rattle.up_book.specs.Remembering.{StartsRemember}
-use Rattle.up_book.specs.Views.{Places}
-use Rattle.up_book.proofs.Beginning.{blank-unused}
-use Rattle.up_book.proofs.One.{apart-back}
+use Rattle.up_book.proofs.One.{apart-back, nth-apart}
+use Rattle.up_model.proofs.Places.{bytes_refl}
 
 both-first : (a b : Bool) → (a && b) ≡ true → a ≡ true
 both-first true b h = refl
@@ -72,35 +62,22 @@ pub order-distinct : (jobs : List JobDef) → AreInOrder name_of jobs → AreDis
 order-distinct [] order = tt
 order-distinct (job ∷ jobs) order = (below-apart job.name jobs order.0, order-distinct jobs order.1)
 
--- one trigger more
-pub starts-more : (places : Places) (config : Configuration) (ts : List (Option (List Mark))) (t : Option (List Mark)) (jobs : List JobDef) (i : ℕ) (d : JobDef) → i < length jobs → StartsRemember places config [] ts (take i jobs)
-    → Remembers places t (get_or jobs i d).start_on [] → StartsRemember places config [] (ts ++ t ∷ []) (take (i + 1) jobs)
-starts-more places config ts t [] i d within r new = absurd (omega arith)
-starts-more places config [] t (job ∷ jobs) zero d within r new = (new, tt)
-starts-more places config (u ∷ ts) t (job ∷ jobs) zero d within r new = absurd r
-starts-more places config [] t (job ∷ jobs) (suc i) d within r new = absurd r
-starts-more places config (u ∷ ts) t (job ∷ jobs) (suc i) d within r new =
-    let one : suc i + 1 ≡ suc (i + 1) = omega arith in
-    subst (λ n. StartsRemember places config [] (u ∷ ts ++ t ∷ []) (take n (job ∷ jobs))) (sym one) (r.0, starts-more places config ts t jobs i d (omega arith) r.1 new)
+-- the job of a place is found by its name
+pub named-there : (n : ℕ) (jobs : List JobDef) (job : JobDef) → nth n jobs ≡ Some job → AreDistinct jobs → job_named job.name jobs ≡ Some job
+named-there n [] job there distinct = absurd cc
+named-there zero (first ∷ jobs) job there distinct =
+    let same : first ≡ job = cc in
+    let here : bytes_eq first.name job.name ≡ true = ap (λ (j : JobDef). bytes_eq j.name job.name) same ∙ bytes_refl job.name in
+    rw here (ap (λ (j : JobDef). Some j) same)
+named-there (suc n) (first ∷ jobs) job there distinct =
+    rw (apart-back job.name first.name (nth-apart n jobs job first there distinct.0)) (named-there n jobs job there distinct.1)
 
-pub starts-unused : (config : Configuration) (ts : List (Option (List Mark))) (jobs : List JobDef) (id : EventId) → ((places : Places) → StartsRemember places config [] ts jobs) → start_uses id ts ≡ 0
-starts-unused config [] [] id blank = refl
-starts-unused config [] (job ∷ jobs) id blank = absurd (blank (λ one. Rattle.std.proofs.Common.None))
-starts-unused config (t ∷ ts) [] id blank = absurd (blank (λ one. Rattle.std.proofs.Common.None))
-starts-unused config (t ∷ ts) (job ∷ jobs) id blank =
-    omega (arith, blank-unused t job.start_on (λ places. (blank places).0) id, starts-unused config ts jobs id (λ places. (blank places).1))
+-- so is each of the table
+found-more : (x : JobDef) (xs ys : List JobDef) → AllByRecursion (λ y. bytes_eq y.name x.name ≡ false) ys → AllByRecursion (λ y. job_named y.name xs ≡ Some y) ys
+    → AllByRecursion (λ y. job_named y.name (x ∷ xs) ≡ Some y) ys
+found-more x xs [] apart found = tt
+found-more x xs (y ∷ ys) apart found = (rw (apart-back y.name x.name apart.0) found.0, found-more x xs ys apart.1 found.1)
 
--- an index has the leaves of each expression
-there-at : (n : ℕ) (jobs : List JobDef) (job : JobDef) → nth n jobs ≡ Some job → (n < length jobs) × (slice_index_or jobs n job ≡ job)
-there-at n [] job there = absurd cc
-there-at zero (first ∷ jobs) job there = (omega arith, cc)
-there-at (suc n) (first ∷ jobs) job there =
-    let rest = there-at n jobs job there in
-    (omega (arith, rest.0), rest.1)
-
-pub indexed : (jobs : List JobDef) (index : List Place)
-    → ((name : Bytes) (k : ℕ) (start : Bool) (job : JobDef) → k < length jobs → map (λ (place : Place). place.node) (of_expression k start (named name index)) ≡ naming_in (side_of start (slice_index_or jobs k job)) name) → HasIndex index jobs
-indexed jobs index leaves = record {
-  stops = λ n job there name. leaves name n false job (there-at n jobs job there).0 ∙ ap (λ (j : JobDef). naming_in (side_of false j) name) (there-at n jobs job there).1;
-  starts = λ n job there name. leaves name n true job (there-at n jobs job there).0 ∙ ap (λ (j : JobDef). naming_in (side_of true j) name) (there-at n jobs job there).1;
-}
+pub found-all : (jobs : List JobDef) → AreDistinct jobs → AllByRecursion (λ job. job_named job.name jobs ≡ Some job) jobs
+found-all [] distinct = tt
+found-all (x ∷ xs) distinct = (rw (bytes_refl x.name) refl, found-more x xs xs distinct.0 (found-all xs distinct.1))

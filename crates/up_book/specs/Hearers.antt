@@ -1,5 +1,5 @@
 -- Which jobs hear of an event.
-use Rattle.std.specs.Prelude.{◌≡◌, ◌<◌, ◌≤◌, ◌==◌, nat_le, ℕ, Bool, true, false, ◌&&◌, ◌||◌, ◌⊎◌, nat_lt, List, [], ◌∷◌, Option, None, Some, if◌then◌else◌}
+use Rattle.std.specs.Prelude.{map, ◌≡◌, ◌<◌, ◌≤◌, ◌==◌, nat_le, ℕ, Bool, true, false, ◌&&◌, ◌||◌, ◌⊎◌, nat_lt, List, [], ◌∷◌, Option, None, Some, if◌then◌else◌}
 use Rattle.std.specs.List.{AllByRecursion, list_any}
 use Rattle.up_conf.specs.declared.job.JobDef.{JobDef}
 use Rattle.up_image.specs.declared.index.Place.{Place}
@@ -8,7 +8,7 @@ use Rattle.up_image.specs.Index.{named}
 use Rattle.up_job.specs.JobLists.{instances_at}
 use Rattle.up_job.specs.declared.instance.Instance.{Instance as Kept}
 use Rattle.up_job.specs.declared.instances.JobInstances.{JobInstances}
-use Rattle.up_marks.specs.Naming.{naming_in}
+use Rattle.up_marks.specs.Naming.{naming_in, of_expression}
 use Rattle.up_marks.specs.Ruling.{may_hear, may_match_in}
 use Rattle.up_model.specs.Chronicle.{Chronicle}
 use Rattle.up_model.specs.Configuration.{Configuration}
@@ -16,6 +16,7 @@ use Rattle.up_model.specs.Instances.{Instance, instances_of}
 use Rattle.up_model.specs.Values.{Bytes}
 use Rattle.up_model.specs.declared.event.Event.{Event}
 use Rattle.up_book.specs.Keys.{job_at}
+use Rattle.up_job.specs.Lists.{nth}
 
 -- whether a leaf of one of a job's expressions names an event, and doesn't rule it out by a literal value
 abbrev pub hears : JobDef → Option Event → Bool
@@ -70,6 +71,16 @@ one_stops event its = list_any (λ k. may_match_in k.file.stop_on event.name eve
 -- the same of the job of a place
 abbrev pub has_stop : List JobInstances → Event → Place → Bool
 has_stop jobs event place = one_stops event (instances_at place.job jobs)
+
+-- the leaves of an expression in an index are those that name an event
+abbrev pub HasLeaves : List Place → (job : ℕ) → (start : Bool) → Option Tree → Type 0
+HasLeaves index job start condition =
+    (name : Bytes) → map (λ place. place.node) (of_expression job start (named name index)) ≡ naming_in condition name
+
+-- an index has the leaves of each of these jobs' expressions
+pub record HasIndex (index : List Place) (jobs : List JobDef) : Type 0 where
+  pub stops : (n : ℕ) (job : JobDef) → nth n jobs ≡ Some job → HasLeaves index n false job.stop_on
+  pub starts : (n : ℕ) (job : JobDef) → nth n jobs ≡ Some job → HasLeaves index n true job.start_on
 
 -- each event that an expression names has a place of a job among these
 abbrev pub has_place : (job : ℕ) → List Place → Bool

@@ -11,6 +11,7 @@ use Rattle.up_model.specs.Chronicle.{Chronicle, Given}
 use Rattle.up_model.specs.Configuration.{Configuration}
 use Rattle.up_model.specs.Instances.{Instance, instances_of, instance_named}
 use Rattle.up_model.specs.Values.{Bytes}
+use Rattle.up_model.specs.declared.who.Who.{Who}
 
 -- what a book is asked between two steps, or within one
 pub data Mode : Type 0 where
@@ -19,6 +20,10 @@ pub data Mode : Type 0 where
 
 abbrev pub name_of : JobDef → Bytes
 name_of job = job.name
+
+-- an instance by the names of its job and of its own
+abbrev pub called : Bytes → Bytes → Who
+called job name = record { job = job; instance = name }
 
 -- the job at an index of the table, and its name
 abbrev pub job_at : Configuration → ℕ → Option JobDef
@@ -34,6 +39,12 @@ instance_at config c key = option_and_then (λ job. slice_get (instances_of job 
 -- where it was made
 abbrev pub instance_place : Configuration → Chronicle → InstanceKey → Option ℕ
 instance_place config c key = option_map (λ its. its.place) (instance_at config c key)
+
+-- where the input of this step was given
+abbrev pub given_place : Chronicle → ℕ
+given_place [] = 0
+given_place (Given its ∷ c) = length c
+given_place (entry ∷ c) = given_place c
 
 -- where the request of this step was given, if its client waits
 abbrev pub request_place : Chronicle → Option ℕ

@@ -12,7 +12,6 @@ use Rattle.up_model.specs.declared.state.State.{State}
 use Rattle.up_model.specs.declared.state.State.TheVariants as state
 use Rattle.up_model.specs.Chronicle.{Chronicle, Entry, Given, Queued}
 use Rattle.up_model.specs.Clock.{kill_moment}
-use Rattle.up_model.specs.Configuration.{Configuration}
 use Rattle.up_model.specs.Instances.{Instance, instances_of}
 use Rattle.up_model.specs.Readings.{entry_at, goal, state_of, was_restarted, pending_env, env, stop_env, failure, holders, blocker, is_awaited, pid_of}
 use Rattle.up_model.specs.Values.{Bytes, Bindings}

@@ -51,7 +51,7 @@ fn next_job_in(jobs: &[JobFile], places: &[Place], event: &Event, from: usize) -
 }
 
 /// The first job from one on with a leaf that may match an event. Takes no memory.
-pub(crate) fn next_job(index: &Index, jobs: &[JobFile], event: &Event, from: usize) -> Option<usize>
+pub fn next_job(index: &Index, jobs: &[JobFile], event: &Event, from: usize) -> Option<usize>
     ensures { IsNextJob (admits jobs.now event.now) from (named event.now.name index.now) result }
 {
     next_job_in(jobs, index.places(&event.name), event, from)
@@ -99,7 +99,7 @@ fn next_other_in(
 }
 
 /// The first job from one on that has places of the event in an index, and an instance that the event may stop. Takes no memory.
-pub(crate) fn next_other(
+pub fn next_other(
     others: &Index,
     instances: &Instances,
     event: &Event,
@@ -111,7 +111,7 @@ pub(crate) fn next_other(
 }
 
 /// The lesser of two, if there are two.
-pub(crate) fn lesser_of(one: Option<usize>, other: Option<usize>) -> Option<usize>
+pub fn lesser_of(one: Option<usize>, other: Option<usize>) -> Option<usize>
     ensures { result ≡ lesser one other }
 {
     match (one, other) {

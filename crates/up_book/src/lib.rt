@@ -1,23 +1,12 @@
-//! A book that forgets: of the past it keeps what can still matter.
+//! What a book is: what an engine keeps of the past, and what it may be asked and told.
 #![tactic(auto)]
 
 mod book;
 mod hearers;
-mod hearing;
 mod holders;
-mod holding;
-mod ledger;
-mod offers;
 mod orders;
-mod past;
-mod readings;
-mod replies;
-mod step;
-mod telling;
 
 pub use book::Book;
+pub use hearers::{lesser_of, next_job, next_other};
 pub use holders::Holders;
-pub use ledger::Ledger;
-pub use orders::action_of;
-pub use past::Past;
-pub use step::{ActedOn, Asked, Step};
+pub use orders::{action_of, order_of, signal_of};

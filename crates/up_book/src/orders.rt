@@ -160,7 +160,7 @@ fn order_with(
 }
 
 /// What is asked for by which a process of an instance is started, if its job has the process.
-pub(crate) fn order_of(
+pub fn order_of(
     alloc: Global,
     job: &JobDef,
     kept: &Instance,
@@ -179,11 +179,7 @@ pub(crate) fn order_of(
 }
 
 /// What is asked for by which main of an instance of a job of this name gets a signal, if it lives.
-pub(crate) fn signal_of(
-    job: &Name,
-    kept: &Instance,
-    signal: u8,
-) -> Result<Option<Output>, AllocError>
+pub fn signal_of(job: &Name, kept: &Instance, signal: u8) -> Result<Option<Output>, AllocError>
     ensures { IfOk result (λ output. (places : Places) (its : JobValue) → its.name ≡ job.now
         → listed output ≡ signal_by its (view places kept.now) signal) }
 {

@@ -34,19 +34,19 @@ use Rattle.up_model.proofs.ReplyLaws.{releasing-all}
 use Rattle.up_model.proofs.Sparing.{same-append, all-append, all-if}
 use Rattle.up_book.specs.Keeps.{AreDistinct}
 use Rattle.up_book.specs.Keys.{job_at, instance_at, instance_place}
-use Rattle.up_book.proofs.Answering.{Names, speaks-not}
+use Rattle.up_ledger.proofs.Answering.{Names, speaks-not}
 use Rattle.up_book.proofs.Keyed.{nth-get, job-there}
 use Rattle.up_book.proofs.One.{IsKnown, known-all, called, none-of-others, nth-all, nth-apart, apart-back}
 use Rattle.up_engine.specs.Effects.{IsAlone, Concerns, concern_of}
-use Rattle.up_engine.specs.Settling.{settle_one, settle_each, settle_all}
-use Rattle.up_engine.proofs.Effects.{stay-entries}
-use Rattle.up_engine.proofs.Firing.{stay-still}
-use Rattle.up_engine.proofs.Hearing.{none-moves, settle-lists, each-still, each-append, stay-rest, all-front, all-back}
-use Rattle.up_engine.proofs.Moving.{StayIn, Stay}
-use Rattle.up_engine.proofs.Opening.{About, offering-same}
-use Rattle.up_engine.proofs.Positions.{same-instance}
-use Rattle.up_engine.proofs.Settled.{StandsStill, still-instances}
-use Rattle.up_engine.proofs.Resting.{Rest, RestAll, once, move-about, lists-kept, without-one}
+use Rattle.up_cascade.specs.Settling.{settle_one, settle_each, settle_all}
+use Rattle.up_cascade.proofs.Effects.{stay-entries}
+use Rattle.up_cascade.proofs.Firing.{stay-still}
+use Rattle.up_cascade.proofs.Hearing.{none-moves, settle-lists, each-still, each-append, stay-rest, all-front, all-back}
+use Rattle.up_cascade.proofs.Moving.{StayIn, Stay}
+use Rattle.up_cascade.proofs.Opening.{About, offering-same}
+use Rattle.up_cascade.proofs.Positions.{same-instance}
+use Rattle.up_cascade.proofs.Settled.{StandsStill, still-instances}
+use Rattle.up_cascade.proofs.Resting.{Rest, RestAll, once, move-about, lists-kept, without-one}
 
 -- an instance in a list
 record Among (at : ℕ) (its : List Instance) (x : Instance) : Type 0 where
@@ -99,7 +99,7 @@ own-settles job at x c there stay after =
     let rest_back : Rest back f = stay-rest x.place back f stay_back apart.after in
     ap (λ xs. settle_each xs c) its.list ∙ each-append front (x ∷ back) c ∙ ap (λ g. settle_each back (settle_one 5 x.file x g)) (each-still front c rest_front) ∙ each-still back f rest_back
   where
-    by_lists : (b : Bool) (front back : List Instance) → instances_of job.name c ≡ front ++ x ∷ back → Rattle.up_engine.specs.Settling.ListsAfter b x c (settle_one 5 x.file x c) → StayIn x.place back (settle_one 5 x.file x c)
+    by_lists : (b : Bool) (front back : List Instance) → instances_of job.name c ≡ front ++ x ∷ back → Rattle.up_cascade.specs.Settling.ListsAfter b x c (settle_one 5 x.file x c) → StayIn x.place back (settle_one 5 x.file x c)
     by_lists true front back list lists =
         (all-back (λ y. (y.place == x.place) ≡ false → may_leave y.file y.place (settle_one 5 x.file x c) ≡ false) front (x ∷ back) (subst (λ xs. StayIn x.place xs (settle_one 5 x.file x c)) (lists job.name ∙ list) after)).1
     by_lists false front back list lists =

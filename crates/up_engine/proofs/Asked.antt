@@ -10,13 +10,13 @@ use Rattle.up_engine.specs.declared.due.Concern.TheVariants as on
 use Rattle.up_engine.specs.Effects.{ActsOn, Concerns as ConcernsOf, IsAlone, IsCalled}
 use Rattle.up_engine.specs.Requests.{answer_of}
 use Rattle.up_engine.proofs.Alone.{Own, here, one-settles}
-use Rattle.up_engine.proofs.Effects.{effect-offers, none-due, stay-entries}
-use Rattle.up_engine.proofs.Firing.{stay-made, stay-still, still-stay}
-use Rattle.up_engine.proofs.Hearing.{none-moves}
-use Rattle.up_engine.proofs.JobMoves.{move_first}
-use Rattle.up_engine.proofs.Moving.{StayIn, Stay}
-use Rattle.up_engine.proofs.Opening.{About}
-use Rattle.up_engine.proofs.Settled.{still-instances}
+use Rattle.up_cascade.proofs.Effects.{effect-offers, none-due, stay-entries}
+use Rattle.up_cascade.proofs.Firing.{stay-made, stay-still, still-stay}
+use Rattle.up_cascade.proofs.Hearing.{none-moves}
+use Rattle.up_cascade.proofs.JobMoves.{move_first}
+use Rattle.up_cascade.proofs.Moving.{StayIn, Stay}
+use Rattle.up_cascade.proofs.Opening.{About}
+use Rattle.up_cascade.proofs.Settled.{still-instances}
 use Rattle.up_job.specs.declared.instance_key.InstanceKey.{InstanceKey}
 use Rattle.up_model.proofs.NameLaws.{made-found}
 use Rattle.up_model.proofs.ReplyLaws.{releasing-all}

@@ -21,7 +21,7 @@ use Rattle.up_isolation.specs.Views.{jobs_called}
 use Rattle.up_isolation.proofs.Ones.{AreApart, one-called}
 use Rattle.std.proofs.Common.{◌≤◌}
 use Rattle.up_model.specs.Values.{Bytes}
-use Rattle.up_engine.proofs.Entries.{some_same}
+use Rattle.up_cascade.proofs.Entries.{some_same}
 
 -- a job has the name that it was made with
 name-of_job : (name : List ℕ) (stanzas : List Stanza) → (job_of name stanzas).name ≡ name

@@ -1,7 +1,6 @@
 -- What a step comes to that takes no memory.
-use Rattle.std.proofs.Common.{◌≡◌, ◌==◌, ◌||◌, ℕ, Bool, true, false, List, [], ◌∷◌, ◌++◌, length, take, drop, Option, None, Some, if◌then◌else◌, refl, sym, ◌∙◌, ap, subst, arith, eqb-true}
+use Rattle.std.proofs.Common.{◌≡◌, ◌==◌, ℕ, Bool, true, false, List, [], ◌∷◌, ◌++◌, length, take, drop, Option, None, Some, if◌then◌else◌, refl, sym, ◌∙◌, ap, subst, arith, eqb-true}
 use Rattle.std.proofs.Math.Seq.{take-append_seam, drop-append_seam}
-use Rattle.up_model.specs.declared.event.Event.{Event}
 use Rattle.up_model.specs.declared.input.Input.{Input}
 use Rattle.up_model.specs.declared.input.Input.TheVariants as input
 use Rattle.up_model.specs.declared.step.Step.{Step}
@@ -9,21 +8,17 @@ use Rattle.up_model.specs.Answers.{is_expected, answers, after_all}
 use Rattle.up_model.specs.Chronicle.{Chronicle, Given, Handled}
 use Rattle.up_model.specs.Configuration.{Configuration}
 use Rattle.up_model.specs.Due.{turn_event, turn_of, failed_event_of, finishing, effect}
-use Rattle.up_model.specs.Instances.{instances_of}
 use Rattle.up_model.specs.Loads.{in_force}
 use Rattle.up_model.specs.Outputs.{outputs_of}
 use Rattle.up_model.specs.Queue.{Live, queue}
 use Rattle.up_model.specs.Readings.{entry_at, event_of, event_at}
-use Rattle.up_conf.specs.declared.job.JobDef.{JobDef}
-use Rattle.up_book.specs.Hearers.{hears, one_hears}
-use Rattle.up_book.specs.Keys.{job_at}
 use Rattle.up_book.specs.Unblocking.{IsBlockedBy}
 use Rattle.up_job.specs.declared.instance_key.InstanceKey.{InstanceKey}
 use Rattle.up_model.specs.declared.event_id.EventId.{EventId}
 use Rattle.up_engine.specs.Effects.{unblocked_concern}
-use Rattle.up_engine.specs.Free.{ConcernsNone, NoneHears, EndsUnseen, IsFreeOf, TurnIsFree, IsFree, StopsAtNoFree}
+use Rattle.up_engine.specs.Free.{ConcernsNone, EndsUnseen, IsFreeOf, TurnIsFree, IsFree, StopsAtNoFree}
 use Rattle.up_engine.proofs.RunLemmas.{length-answers}
-use Rattle.up_engine.proofs.Unheard.{none-later}
+use Rattle.up_cascade.proofs.Unheard.{none-later}
 
 pub true-false : true ≡ false → ⊥
 true-false is = absurd cc
@@ -85,11 +80,6 @@ stops_at steps config c inputs passed left given whole so_far never = λ other r
     let both : given ∷ left ≡ other ∷ rest = sym back ∙ is in
     let same : given ≡ other = cc in
     λ free. never (subst (λ x. IsFree (in_force config (after_all config c passed)) (after_all config c passed) x) (sym same) (rw front at free))
-
--- no job hears of an event of which none does
-pub hears-none : (config : Configuration) (n : ℕ) (job : JobDef) (event : Option Event) (c : Chronicle) → NoneHears config event c → job_at config n ≡ Some job
-    → (hears job event || one_hears event (instances_of job.name c)) ≡ true → ⊥
-hears-none config n job event c none there heard = true-false (sym heard ∙ none n job there)
 
 -- an event of which nobody is told: it concerns nobody, and no event tells of it
 pub unseen-told : (e : ℕ) (c : Chronicle) → EndsUnseen e c → failed_event_of e c ≡ None

@@ -12,11 +12,11 @@ use Rattle.up_model.specs.Outputs.{outputs_of}
 use Rattle.up_model.specs.Queue.{Live, queue}
 use Rattle.up_model.proofs.HeldLaws.{held-given}
 use Rattle.up_book.specs.Keys.{Resting}
-use Rattle.up_book.proofs.Giving.{forgets-turn}
-use Rattle.up_book.proofs.Ledgers.{found-same, stood}
+use Rattle.up_ledger.proofs.Giving.{forgets-turn}
+use Rattle.up_ledger.proofs.Ledgers.{found-same, stood}
 use Rattle.up_engine.specs.declared.engine.Engine.{Engine}
 use Rattle.up_engine.specs.Stands.{Stands}
-use Rattle.up_engine.proofs.Unfired.{none-entry}
+use Rattle.up_cascade.proofs.Unfired.{none-entry}
 use Rattle.up_engine.proofs.Quiet.{idle-due, after-quiet}
 
 turn-same : (config : Configuration) (lives : List Live) (c : Chronicle) → turn_event config lives (Given Turn ∷ c) ≡ turn_event config lives c

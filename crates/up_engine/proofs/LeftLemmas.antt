@@ -2,14 +2,14 @@
 use Rattle.std.proofs.Common.{◌≡◌, ◌≤◌, ◌+◌, true, List, sym, subst}
 use Rattle.std.proofs.Math.Logic.{∥∥₁_elim}
 use Rattle.std.specs.Coded.{le_prop}
-use Rattle.up_book.proofs.LeftKept.{left-kept}
-use Rattle.up_book.specs.Eventing.{place_of}
+use Rattle.up_ledger.proofs.LeftKept.{left-kept}
+use Rattle.up_ledger.specs.Eventing.{place_of}
 use Rattle.up_book.specs.Keys.{Resting}
-use Rattle.up_book.specs.Ledgers.{Stands}
-use Rattle.up_book.specs.Lefts.{left_of_jobs}
-use Rattle.up_book.specs.declared.ledger.Ledger.{Ledger}
+use Rattle.up_ledger.specs.Ledgers.{Stands}
+use Rattle.up_ledger.specs.Lefts.{left_of_jobs}
+use Rattle.up_ledger.specs.declared.ledger.Ledger.{Ledger}
 use Rattle.up_engine.specs.Sound.{Rests}
-use Rattle.up_engine.specs.Unfired.{IsAtRest}
+use Rattle.up_cascade.specs.Unfired.{IsAtRest}
 use Rattle.up_engine.proofs.Loading.{rest-after}
 use Rattle.up_model.specs.declared.input.Input.{Input}
 use Rattle.up_model.specs.declared.output.Output.{Output}

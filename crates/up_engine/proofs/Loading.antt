@@ -1,10 +1,10 @@
 -- What a step comes to, in a run whose configuration loads exchange.
 use Rattle.std.proofs.Common.{◌≡◌, ◌∙◌, ℕ, Bool, true, false, List, [], ◌∷◌, ◌++◌, None, refl, sym, ap, subst}
-use Rattle.up_engine.specs.Settling.{after_in}
-use Rattle.up_engine.specs.Unfired.{NoneHolds, IsAtRest}
-use Rattle.up_engine.proofs.LoadLemmas.{not-load}
+use Rattle.up_cascade.specs.Settling.{after_in}
+use Rattle.up_cascade.specs.Unfired.{NoneHolds, IsAtRest}
+use Rattle.up_cascade.proofs.LoadLemmas.{not-load}
 use Rattle.up_engine.proofs.Untrue.{rest-in}
-use Rattle.up_engine.proofs.Unfired.{none-entry, none-loaded}
+use Rattle.up_cascade.proofs.Unfired.{none-entry, none-loaded}
 use Rattle.up_book.specs.Keeps.{AreDistinct}
 use Rattle.up_book.specs.Keys.{SpeaksOf}
 use Rattle.up_conf.specs.declared.job.JobDef.{JobDef}

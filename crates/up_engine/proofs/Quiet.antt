@@ -23,12 +23,12 @@ use Rattle.up_model.specs.Values.{Bytes}
 use Rattle.up_model.specs.Work.{work}
 use Rattle.up_model.proofs.Settling.{settle_still}
 use Rattle.up_model.proofs.Sparing.{same-append, all-append}
-use Rattle.up_engine.specs.Settling.{after_in}
-use Rattle.up_engine.proofs.JobMoves.{move_first}
-use Rattle.up_engine.proofs.Effects.{none-due}
-use Rattle.up_engine.proofs.Firing.{stay-still, still-stay}
-use Rattle.up_engine.proofs.Hearing.{GivesNone, asked-same, none-moves}
-use Rattle.up_engine.proofs.Moving.{StayIn, Stay}
+use Rattle.up_cascade.specs.Settling.{after_in}
+use Rattle.up_cascade.proofs.JobMoves.{move_first}
+use Rattle.up_cascade.proofs.Effects.{none-due}
+use Rattle.up_cascade.proofs.Firing.{stay-still, still-stay}
+use Rattle.up_cascade.proofs.Hearing.{GivesNone, asked-same, none-moves}
+use Rattle.up_cascade.proofs.Moving.{StayIn, Stay}
 
 -- an entry that says nothing of what an instance waits for, and takes no event up
 abbrev pub IsQuiet : Entry → Type 0

@@ -29,12 +29,12 @@ use Rattle.up_book.specs.Unblocking.{IsBlockedBy}
 use Rattle.up_book.proofs.Keyed.{nth-get, job-there}
 use Rattle.up_engine.specs.Effects.{IsAlone, Concerns, unblocked_concern}
 use Rattle.up_engine.proofs.Alone.{here, one-settles}
-use Rattle.up_engine.proofs.Effects.{none-due, turn-finishes}
-use Rattle.up_engine.proofs.Entries.{finishing_last}
-use Rattle.up_engine.proofs.Firing.{stay-still, still-stay}
-use Rattle.up_engine.proofs.Hearing.{GivesNone, asked-same, none-moves}
-use Rattle.up_engine.proofs.Moving.{StayIn, Stay}
-use Rattle.up_engine.proofs.Positions.{same-instance}
+use Rattle.up_cascade.proofs.Effects.{none-due, turn-finishes}
+use Rattle.up_cascade.proofs.Entries.{finishing_last}
+use Rattle.up_cascade.proofs.Firing.{stay-still, still-stay}
+use Rattle.up_cascade.proofs.Hearing.{GivesNone, asked-same, none-moves}
+use Rattle.up_cascade.proofs.Moving.{StayIn, Stay}
+use Rattle.up_cascade.proofs.Positions.{same-instance}
 use Rattle.up_engine.proofs.Quiet.{IsQuiet, lists-same, stays-quiet, none-asked}
 
 -- what waits for an event once another has finished waited for it before

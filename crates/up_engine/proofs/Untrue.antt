@@ -16,11 +16,11 @@ use Rattle.up_model.proofs.ReplyLaws.{answering_hurried-all}
 use Rattle.up_model.specs.Loads.{is_load}
 use Rattle.up_model.proofs.Settling.{settle_rests}
 use Rattle.up_book.specs.Keeps.{AreDistinct}
-use Rattle.up_engine.specs.Settling.{settle_all, after_in}
-use Rattle.up_engine.specs.Unfired.{NoneHolds, IsAtRest}
-use Rattle.up_engine.proofs.Effects.{TakesNone, TakesUp, IsTaking, effect-of, effect-offers, turn-takes}
-use Rattle.up_engine.proofs.Hearing.{heard-rested, after-taken, after-other}
-use Rattle.up_engine.proofs.Unfired.{IsUnoffered, none-entry, none-entries, none-all, none-first}
+use Rattle.up_cascade.specs.Settling.{settle_all, after_in}
+use Rattle.up_cascade.specs.Unfired.{NoneHolds, IsAtRest}
+use Rattle.up_cascade.proofs.Effects.{TakesNone, TakesUp, IsTaking, effect-of, effect-offers, turn-takes}
+use Rattle.up_cascade.proofs.Hearing.{heard-rested, after-taken, after-other}
+use Rattle.up_cascade.proofs.Unfired.{IsUnoffered, none-entry, none-entries, none-all, none-first}
 
 takes-unoffered : (e : Entry) → TakesNone e → IsUnoffered e
 takes-unoffered (Offered x event) is = absurd is

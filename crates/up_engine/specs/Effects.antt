@@ -3,7 +3,7 @@ use Rattle.std.specs.Prelude.{◌≡◌, ℕ, List, [], ◌∷◌, ◌++◌, Opt
 use Rattle.up_book.specs.Keys.{instance_at, instance_place}
 use Rattle.up_engine.specs.declared.due.Concern.{Concern}
 use Rattle.up_engine.specs.declared.due.Concern.TheVariants.{Nobody, Instance as Instance', Event, Anybody}
-use Rattle.up_engine.specs.Settling.{settle_one, settle_all}
+use Rattle.up_cascade.specs.Settling.{settle_one, settle_all}
 use Rattle.up_job.specs.declared.instance_key.InstanceKey.{InstanceKey}
 use Rattle.up_model.specs.declared.event_id.EventId.{EventId}
 use Rattle.up_model.specs.declared.failure.Verdict.{Verdict}

@@ -1,7 +1,5 @@
 -- The inputs that a step takes without memory, and for which it asks for nothing.
-use Rattle.std.specs.Prelude.{◌≡◌, ℕ, Bool, true, false, ◌||◌, List, [], ◌∷◌, length, take, drop, Option, None, Some}
-use Rattle.up_conf.specs.declared.job.JobDef.{JobDef}
-use Rattle.up_model.specs.declared.event.Event.{Event}
+use Rattle.std.specs.Prelude.{◌≡◌, ℕ, Bool, true, false, List, [], ◌∷◌, length, take, drop, Option, None, Some}
 use Rattle.up_model.specs.declared.event_id.EventId.{EventId}
 use Rattle.up_model.specs.declared.input.Input.{Input}
 use Rattle.up_model.specs.declared.input.Input.TheVariants as input
@@ -13,21 +11,14 @@ use Rattle.up_model.specs.Configuration.{Configuration}
 use Rattle.up_model.specs.Due.{turn_event}
 use Rattle.up_model.specs.Files.{names_in_order}
 use Rattle.up_model.specs.Held.{is_spoilt}
-use Rattle.up_model.specs.Instances.{instances_of}
 use Rattle.up_model.specs.Loads.{in_force}
 use Rattle.up_model.specs.Queue.{Live, queue}
 use Rattle.up_model.specs.Readings.{blocker, event_at}
 use Rattle.up_model.specs.Replies.{waiter}
-use Rattle.up_book.specs.Hearers.{hears, one_hears}
-use Rattle.up_book.specs.Keys.{job_at}
+use Rattle.up_book.specs.Hearers.{hears}
 use Rattle.up_engine.specs.declared.due.Concern.{Concern}
 use Rattle.up_engine.specs.declared.due.Concern.TheVariants.{Nobody, Instance as Instance', Event as Event', Anybody}
-
--- no job hears of an event: no leaf of an expression, of the jobs' files or of those of their instances, names it, or the literal values of
--- each that does rule it out
-abbrev pub NoneHears : Configuration → Option Event → Chronicle → Type 0
-NoneHears config event c = (n : ℕ) (job : JobDef) → job_at config n ≡ Some job
-    → (hears job event || one_hears event (instances_of job.name c)) ≡ false
+use Rattle.up_cascade.specs.Unheard.{NoneHears}
 
 -- an event is over of which nobody is told: no instance let it go as failed, and no client and no instance waits for it
 pub record EndsUnseen (event : ℕ) (c : Chronicle) : Type 0 where

@@ -1,9 +1,9 @@
 -- What the book of an engine is at rest.
 use Rattle.std.specs.Prelude.{◌≡◌, Bool, false}
-use Rattle.up_engine.specs.Unfired.{IsAtRest}
+use Rattle.up_cascade.specs.Unfired.{IsAtRest}
 use Rattle.up_book.specs.Keys.{Resting}
-use Rattle.up_book.specs.Ledgers.{Stands}
-use Rattle.up_book.specs.declared.ledger.Ledger.{Ledger}
+use Rattle.up_ledger.specs.Ledgers.{Stands}
+use Rattle.up_ledger.specs.declared.ledger.Ledger.{Ledger}
 use Rattle.up_model.specs.Chronicle.{Chronicle}
 use Rattle.up_model.specs.Configuration.{Configuration}
 use Rattle.up_model.specs.Loads.{in_force}

@@ -11,15 +11,15 @@ use Rattle.up_model.specs.declared.step.Step.{Step}
 use Rattle.up_model.specs.Answers.{after, is_expected, answer, next, answers, after_all}
 use Rattle.up_model.specs.Chronicle.{Chronicle}
 use Rattle.up_model.specs.Configuration.{Configuration}
-use Rattle.up_engine.specs.Unfired.{IsAtRest}
+use Rattle.up_cascade.specs.Unfired.{IsAtRest}
 use Rattle.up_model.specs.Due.{turn_event}
 use Rattle.up_model.specs.Left.{spawns}
 use Rattle.up_model.specs.Loads.{in_force}
 use Rattle.up_model.specs.Outputs.{outputs_of}
 use Rattle.up_model.specs.Queue.{queue}
 -- the one line that names the book in use
-use Rattle.up_book.specs.Ledgers.{Stands as BookStands}
-use Rattle.up_book.specs.Lefts.{left_of_jobs}
+use Rattle.up_ledger.specs.Ledgers.{Stands as BookStands}
+use Rattle.up_ledger.specs.Lefts.{left_of_jobs}
 
 -- the engine isn't down, and its book stands for this chronicle of a run that was started with this configuration
 pub record Stands (engine : Engine) (config : Configuration) (c : Chronicle) : Type 0 where

@@ -17,13 +17,12 @@ ghost use Rattle.up_model.specs.Instances.{instance_named};
 ghost use Rattle.up_model.specs.Queue as queue;
 ghost use Rattle.up_text.specs.Scripts.{is_filled};
 
-use crate::events::failure_of_event;
 use crate::judgement::{conclude, verdict_on};
 use crate::requests::take_request;
-use crate::setup::Setup;
 use crate::time::kill_overdue;
 use std::alloc::{AllocError, Global};
 use up_book::Book;
+use up_cascade::{Setup, failure_of_event};
 use up_event::TurnKind;
 use up_job::InstanceKey;
 use up_model::{End, Event, EventId, How, Input, Process, Who};
@@ -126,7 +125,7 @@ fn take_spawn<B: Book>(setup: &Setup, book: &mut B, who: Who, process: Process, 
     concern_of(on)
 }
 
-#[tactic(auto, unfolding(up_model::specs::Due::effect), using(crate::proofs::Entries::one_last))]
+#[tactic(auto, unfolding(up_model::specs::Due::effect), using(up_cascade::proofs::Entries::one_last))]
 fn take_refusal<B: Book>(
     setup: &Setup,
     book: &mut B,
@@ -149,7 +148,7 @@ fn take_refusal<B: Book>(
     Ok(concern_of(on))
 }
 
-#[tactic(auto, unfolding(up_model::specs::Due::effect), using(crate::proofs::Entries::one_last))]
+#[tactic(auto, unfolding(up_model::specs::Due::effect), using(up_cascade::proofs::Entries::one_last))]
 fn take_end<B: Book>(
     setup: &Setup,
     book: &mut B,
@@ -203,7 +202,7 @@ fn unblocked_concern(on: Option<InstanceKey>) -> Concern
     Concern::Nobody
 }
 
-#[tactic(auto, using(crate::proofs::Entries::finishing_last))]
+#[tactic(auto, using(up_cascade::proofs::Entries::finishing_last))]
 fn finish<B: Book>(alloc: Global, book: &mut B, key: EventId) -> Result<Concern, AllocError>
     ensures after { OnOk result ((config : Configuration) (c : Chronicle) (e : ℕ)
         → B.stands book.old Resting config c
@@ -243,7 +242,7 @@ fn handle<B: Book>(book: &mut B, key: EventId)
 }
 
 // Takes a turn in: it handles an unhandled event, and finishes a handled one.
-#[tactic(auto, using(crate::proofs::Entries::one_last))]
+#[tactic(auto, using(up_cascade::proofs::Entries::one_last))]
 fn turn_by<B: Book>(
     alloc: Global,
     book: &mut B,
@@ -306,7 +305,7 @@ fn take_turn<B: Book>(alloc: Global, book: &mut B) -> Result<Concern, AllocError
     }
 }
 
-#[tactic(auto, unfolding(up_model::specs::Due::effect), using(crate::proofs::Entries::one_last))]
+#[tactic(auto, unfolding(up_model::specs::Due::effect), using(up_cascade::proofs::Entries::one_last))]
 fn take_reading<B: Book>(
     alloc: Global,
     setup: &Setup,

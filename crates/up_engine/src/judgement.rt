@@ -11,10 +11,9 @@ ghost use Rattle.up_model.specs.Instances.{instance_named};
 ghost use Rattle.up_model.specs.Readings as read;
 ghost use Rattle.up_model.specs.Judgement as model;
 
-use crate::life::is_start;
-use crate::setup::Setup;
 use std::alloc::AllocError;
 use up_book::Book;
+use up_cascade::{Setup, is_start};
 use up_conf::Exit;
 use up_job::{InstanceKey, judge_end};
 use up_model::{End, Failure, How, JobDef, Process, Verdict, Who};

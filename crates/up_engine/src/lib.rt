@@ -3,21 +3,14 @@
 
 mod due;
 mod engine;
-mod environment;
-mod events;
 mod fault;
-mod hear;
 mod judgement;
 mod laws;
-mod life;
 mod load;
-mod moves;
-mod offers;
 mod requests;
 mod run;
-mod settle;
-mod setup;
 mod status;
+mod step;
 mod target;
 mod texts;
 mod time;

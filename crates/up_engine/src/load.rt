@@ -9,10 +9,10 @@ ghost use Rattle.up_model.specs.Loads.{in_force, is_load, loading, not_loaded, w
 ghost use Rattle.up_model.specs.declared.input.Input.{Input as InputValue};
 ghost use Rattle.up_model.specs.declared.loaded.Loaded.TheVariants as loaded_as;
 
-use crate::setup::Setup;
 use crate::texts::{configuration_not_read, configuration_refused, no_text};
 use std::alloc::{AllocError, Global};
 use up_book::Book;
+use up_cascade::Setup;
 use up_image::Table;
 use up_model::{Answer, Input, Loaded};
 use up_text::Text;
@@ -91,7 +91,7 @@ pub(crate) fn is_load(given: &Input) -> bool
 }
 
 /// Carries out a load that the book has taken in.
-#[tactic(auto, unfolding(up_model::specs::Due::effect), using(crate::proofs::Entries::one_last))]
+#[tactic(auto, unfolding(up_model::specs::Due::effect), using(up_cascade::proofs::Entries::one_last))]
 pub(crate) fn load<B: Book>(
     alloc: Global,
     setup: &mut Setup,

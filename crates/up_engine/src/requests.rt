@@ -2,8 +2,7 @@
 ghost use Rattle.std.specs.Prelude.{option_map, ◌≡◌, ◌&&◌, ℕ, true, false, List, length, ◌∷◌, [], ◌++◌, map, Option, None, Some, if◌then◌else◌, IfOk, OnOk};
 ghost use Rattle.up_conf.specs.declared.job.JobDef.{JobDef as JobValue};
 ghost use Rattle.up_model.specs.declared.event_id.EventId.{EventId as EventIdValue};
-ghost use Rattle.up_book.specs.Asking.{given_place};
-ghost use Rattle.up_book.specs.Keys.{job_at, Mode, Resting, Stepping, held_as, request_place, name_at, instance_place};
+ghost use Rattle.up_book.specs.Keys.{job_at, Mode, Resting, Stepping, held_as, request_place, name_at, instance_place, given_place};
 ghost use Rattle.up_engine.specs.Effects.{ActsOn, Concerns, IsCalled};
 ghost use Rattle.up_engine.specs.Requests.{target_of as said_of, IsIndexed, answer_of, unless};
 ghost use Rattle.up_model.specs.declared.input.Input.{Input as InputValue};
@@ -23,10 +22,6 @@ ghost use Rattle.up_model.specs.Values.{Bindings};
 ghost use Rattle.up_stanza.specs.declared.process.Process.TheVariants.{Main};
 
 use crate::due::Concern;
-use crate::events::event_of;
-use crate::life::{is_running, is_start};
-use crate::offers::{has_room, start_called, stop_of};
-use crate::setup::Setup;
 use crate::status::{list, status};
 use crate::target::{Target, known_target, target_of};
 use crate::texts::{
@@ -35,6 +30,7 @@ use crate::texts::{
 };
 use std::alloc::{AllocError, Global};
 use up_book::{Book, Holders};
+use up_cascade::{Setup, event_of, has_room, is_running, is_start, start_called, stop_of};
 use up_image::JobFile;
 use up_job::InstanceKey;
 use up_model::{Answer, Command, Input, JobDef, MAX_EVENTS, Process, Request, Who};
@@ -661,7 +657,7 @@ fn change<B: Book>(
 }
 
 /// Takes a request in, with what it does; returns whom that concerns.
-#[tactic(auto, unfolding(up_model::specs::Due::effect), using(crate::proofs::Entries::one_last))]
+#[tactic(auto, unfolding(up_model::specs::Due::effect), using(up_cascade::proofs::Entries::one_last))]
 pub(crate) fn take_request<B: Book>(
     alloc: Global,
     setup: &Setup,

@@ -10,11 +10,11 @@ ghost use Rattle.up_model.specs.Instances as model_instances;
 ghost use Rattle.up_model.specs.Replies.{status_of};
 ghost use Rattle.up_model.specs.Values.{Bytes};
 
-use crate::setup::Setup;
 use crate::target::Target;
 use crate::texts::{stopped, unknown_instance};
 use std::alloc::{AllocError, Global};
 use up_book::Book;
+use up_cascade::Setup;
 use up_job::InstanceKey;
 use up_model::{Answer, JobDef, Who};
 use up_text::Text;

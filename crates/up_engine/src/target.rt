@@ -10,11 +10,10 @@ ghost use Rattle.up_model.specs.Instances.{instances_of};
 ghost use Rattle.up_text.specs.Scripts.{is_filled};
 ghost use Rattle.up_text.specs.Expansion.{expand as expansion};
 
-use crate::environment::request_start_env;
-use crate::setup::Setup;
 use crate::texts::{unknown_job, unknown_parameter};
 use std::alloc::{AllocError, Global};
 use up_book::Book;
+use up_cascade::{Setup, request_start_env};
 use up_image::JobFile;
 use up_model::{JobDef, Who};
 use up_text::{Env, Expanded, Text, TextFault, expand};

@@ -1,8 +1,8 @@
-use Rattle.std.proofs.Common.{◌≡◌, ◌∙◌, ◌+◌, ◌<◌, ◌≤◌, ℕ, Bool, false, drop, get_or, length, ap, sym, subst, arith}
+use Rattle.std.proofs.Common.{◌≡◌, ◌∙◌, ◌+◌, ◌<◌, ◌≤◌, ℕ, Bool, false, drop, get_or, ap, sym, arith}
 use Rattle.up_image.specs.declared.index.Place.{Place}
 use Rattle.up_job.specs.JobLists.{instances_at}
 use Rattle.up_book.specs.Hearers.{first_from, has_stop, one_stops}
-use Rattle.up_book.proofs.Others.{other-before, other-vain, other-here}
+use Rattle.up_book.proofs.Others.{other-before, other-vain}
 use Rattle.up_book.proofs.hearers.first_other.Goals.{then-from-job+else-one_stops, else-from-job}
 use Rattle.up_book.proofs.hearers.first_other.Goals as goal
 

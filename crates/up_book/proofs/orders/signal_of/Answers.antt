@@ -1,4 +1,4 @@
-use Rattle.up_book.proofs.Outgoing.{signal-by, signal-none}
+use Rattle.up_book.proofs.Signalling.{signal-by, signal-none}
 use Rattle.up_book.proofs.orders.signal_of.Goals as goal
 
 pub returns-in_ok-who-in-Some : goal.returns-in_ok-who-in-Some

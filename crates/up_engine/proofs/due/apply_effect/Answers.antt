@@ -1,4 +1,4 @@
-use Rattle.up_engine.proofs.Effects.{effect-offers}
+use Rattle.up_cascade.proofs.Effects.{effect-offers}
 use Rattle.up_engine.proofs.Quiet.{event-due, reading-due}
 use Rattle.up_engine.proofs.due.apply_effect.Goals as goal
 

@@ -1,6 +1,6 @@
 use Rattle.std.proofs.Common.{◌∷◌, ◌∙◌}
 use Rattle.up_book.specs.Keys.{Stepping}
-use Rattle.up_engine.proofs.Entries.{finishing_last}
+use Rattle.up_cascade.proofs.Entries.{finishing_last}
 use Rattle.up_engine.proofs.FreeLemmas.{unseen-concern, unseen-told}
 use Rattle.up_engine.proofs.Unblocked.{finished-concerns}
 use Rattle.up_model.specs.declared.input.Input.TheVariants.{Turn}

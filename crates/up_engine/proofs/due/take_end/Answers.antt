@@ -1,8 +1,8 @@
 use Rattle.std.proofs.Common.{◌++◌, ◌∷◌, [], List, append_assoc, refl, subst}
 use Rattle.up_book.specs.Keys.{Resting, Stepping}
 use Rattle.up_engine.proofs.Alone.{concerns-alone, end_of-own}
-use Rattle.up_engine.proofs.Effects.{effect-offers}
-use Rattle.up_engine.proofs.Entries.{one_last}
+use Rattle.up_cascade.proofs.Effects.{effect-offers}
+use Rattle.up_cascade.proofs.Entries.{one_last}
 use Rattle.up_model.specs.declared.failure.End.TheVariants as end
 use Rattle.up_model.specs.declared.input.Input.TheVariants as input
 use Rattle.up_model.specs.Chronicle.{Chronicle, Entry, Given}

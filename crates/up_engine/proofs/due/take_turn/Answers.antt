@@ -1,5 +1,5 @@
 use Rattle.up_engine.proofs.Quiet.{idle-due}
-use Rattle.up_engine.proofs.Entries.{one_last}
+use Rattle.up_cascade.proofs.Entries.{one_last}
 use Rattle.up_engine.proofs.TurnLemmas.{turn_found, turn_none}
 use Rattle.up_model.specs.Due.{effect, turn_event}
 use Rattle.up_model.specs.Queue.{queue}

@@ -5,7 +5,7 @@ use Rattle.up_engine.proofs.FreeLemmas.{event-handled}
 use Rattle.up_model.specs.declared.input.Input.TheVariants.{Turn}
 use Rattle.up_model.specs.Chronicle.{Given}
 use Rattle.up_book.specs.Turning.{is_finish}
-use Rattle.up_engine.proofs.Effects.{turn-takes}
+use Rattle.up_cascade.proofs.Effects.{turn-takes}
 use Rattle.up_engine.proofs.TurnLemmas.{free_then}
 use Rattle.up_model.specs.Due.{turn_event}
 use Rattle.up_model.specs.Queue.{queue, live_at}

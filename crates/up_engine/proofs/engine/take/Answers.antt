@@ -1,8 +1,8 @@
 use Rattle.std.proofs.Common.{◌≡◌, ◌∙◌, ◌∷◌, ◌++◌, sym, subst, ap, refl, true, false}
 use Rattle.up_book.specs.Keys.{Stepping, Resting}
 use Rattle.up_engine.proofs.Loading.{unloaded-after, unloaded-force, loaded-whole, speaks-load}
-use Rattle.up_engine.specs.Unfired.{IsAtRest}
-use Rattle.up_engine.specs.Settling.{after_in}
+use Rattle.up_cascade.specs.Unfired.{IsAtRest}
+use Rattle.up_cascade.specs.Settling.{after_in}
 use Rattle.up_model.specs.Answers.{after}
 use Rattle.up_model.specs.Chronicle.{Chronicle, Given}
 use Rattle.up_model.specs.Configuration.{Configuration}

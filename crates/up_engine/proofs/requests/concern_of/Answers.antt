@@ -1,6 +1,6 @@
 use Rattle.up_job.specs.declared.instance_key.InstanceKey.{InstanceKey}
 use Rattle.up_book.specs.Keys.{instance_place}
-use Rattle.up_engine.proofs.Entries.{named_some}
+use Rattle.up_cascade.proofs.Entries.{named_some}
 use Rattle.up_model.specs.Instances.{instance_named}
 use Rattle.up_engine.proofs.requests.concern_of.Goals as goal
 

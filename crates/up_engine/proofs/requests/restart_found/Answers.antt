@@ -4,7 +4,7 @@ use Rattle.up_model.specs.Chronicle.{Chronicle, Given}
 use Rattle.up_model.specs.Commands.{is_running}
 use Rattle.up_model.specs.Readings.{state_of}
 use Rattle.up_model.specs.Replies.{releasing}
-use Rattle.up_engine.proofs.KeyLemmas.{released_there}
+use Rattle.up_cascade.proofs.KeyLemmas.{released_there}
 use Rattle.up_engine.proofs.requests.restart_found.Goals as goal
 
 pub returns-in_ok-restart : goal.returns-in_ok-restart

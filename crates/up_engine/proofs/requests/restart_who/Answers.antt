@@ -1,7 +1,7 @@
 use Rattle.std.proofs.Common.{◌≡◌, ◌∷◌, None}
 use Rattle.up_job.specs.declared.instance_key.InstanceKey.{InstanceKey}
 use Rattle.up_book.specs.Keys.{Stepping, instance_place}
-use Rattle.up_engine.proofs.Entries.{named_some, named_none}
+use Rattle.up_cascade.proofs.Entries.{named_some, named_none}
 use Rattle.up_model.specs.Chronicle.{Chronicle, Given}
 use Rattle.up_model.specs.Instances.{instance_named}
 use Rattle.up_engine.proofs.requests.restart_who.Goals as goal

@@ -4,8 +4,8 @@ use Rattle.up_model.specs.Chronicle.{Chronicle, Given}
 use Rattle.up_model.specs.Commands.{entries_of}
 use Rattle.up_model.specs.Events.{with_instance}
 use Rattle.up_model.specs.Offers.{start_who}
-use Rattle.up_engine.proofs.Entries.{some_same}
-use Rattle.up_engine.proofs.KeyLemmas.{job_name}
+use Rattle.up_cascade.proofs.Entries.{some_same}
+use Rattle.up_cascade.proofs.KeyLemmas.{job_name}
 use Rattle.up_engine.proofs.requests.start_who.Goals as goal
 
 pub returns-in_ok-refuse-in-Some : goal.returns-in_ok-refuse-in-Some

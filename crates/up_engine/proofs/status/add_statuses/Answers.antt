@@ -1,7 +1,7 @@
 use Rattle.std.proofs.Common.{◌≡◌, ◌∙◌, ◌+◌, ◌++◌, ◌∷◌, [], drop, sym, ap, arith, refl, add-one, append_assoc, append-nil}
 use Rattle.std.proofs.lemmas.List.{drop_all}
 use Rattle.up_job.specs.declared.instance_key.InstanceKey.{InstanceKey}
-use Rattle.up_engine.proofs.KeyLemmas.{there}
+use Rattle.up_cascade.proofs.KeyLemmas.{there}
 use Rattle.up_model.specs.Commands.{statuses}
 use Rattle.up_model.specs.Instances.{instances_of}
 use Rattle.up_model.specs.Replies.{status_of}

@@ -1,7 +1,7 @@
 use Rattle.std.proofs.Common.{◌≡◌, ◌∙◌, ◌+◌, ◌++◌, [], drop, refl, sym, ap, arith, append_assoc, append-nil}
 use Rattle.std.proofs.lemmas.List.{drop_all}
 use Rattle.up_engine.proofs.AnswerLemmas.{list_left}
-use Rattle.up_engine.proofs.KeyLemmas.{named_there}
+use Rattle.up_cascade.proofs.KeyLemmas.{named_there}
 use Rattle.up_model.specs.Commands.{job_lines, list_lines}
 use Rattle.up_model.specs.Configuration.{is_removed}
 use Rattle.up_model.specs.Files.{job_names}

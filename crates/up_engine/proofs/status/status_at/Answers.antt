@@ -1,6 +1,6 @@
 use Rattle.std.proofs.Common.{◌≡◌, ◌∙◌, None, sym, ap}
 use Rattle.up_job.specs.declared.instance_key.InstanceKey.{InstanceKey}
-use Rattle.up_engine.proofs.Entries.{named_some, named_none}
+use Rattle.up_cascade.proofs.Entries.{named_some, named_none}
 use Rattle.up_book.specs.Keys.{instance_place}
 use Rattle.up_engine.specs.Requests.{answer_of}
 use Rattle.up_model.specs.Commands.{status_at, Told}

@@ -1,5 +1,5 @@
 use Rattle.up_text.specs.Expansion.{expand}
-use Rattle.up_engine.proofs.Starting.{gives_target}
+use Rattle.up_cascade.proofs.Starting.{gives_target}
 use Rattle.up_engine.proofs.target.target_in.Goals as goal
 
 pub returns-in-Ok-Text-clause-target : goal.returns-in-Ok-Text-clause-target

@@ -2,7 +2,7 @@ use Rattle.std.proofs.Common.{◌≡◌, ◌∙◌, ◌+◌, ◌++◌, ◌∷◌
 use Rattle.std.proofs.lemmas.List.{drop_all}
 use Rattle.up_job.specs.declared.instance_key.InstanceKey.{InstanceKey}
 use Rattle.up_engine.proofs.ClockLemmas.{none_due}
-use Rattle.up_engine.proofs.KeyLemmas.{there, file-there}
+use Rattle.up_cascade.proofs.KeyLemmas.{there, file-there}
 use Rattle.up_model.specs.Clock.{kill_due, overdue}
 use Rattle.up_model.specs.Instances.{instances_of}
 use Rattle.up_model.specs.Predicates.{entries_if}

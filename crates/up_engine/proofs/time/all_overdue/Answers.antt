@@ -1,7 +1,7 @@
 use Rattle.std.proofs.Common.{◌≡◌, ◌∙◌, ◌+◌, ◌++◌, ◌<◌, [], Some, map, drop, length, sym, ap, arith, refl, add-one, append_assoc, append-nil}
 use Rattle.std.proofs.lemmas.List.{drop_all}
 use Rattle.up_engine.proofs.ClockLemmas.{none_of_job}
-use Rattle.up_engine.proofs.KeyLemmas.{job-at, job_name}
+use Rattle.up_cascade.proofs.KeyLemmas.{job-at, job_name}
 use Rattle.up_model.specs.Clock.{overdue, all_overdue}
 use Rattle.up_model.specs.Files.{job_names}
 use Rattle.up_model.specs.Instances.{instances_of}

@@ -2,7 +2,7 @@ use Rattle.std.proofs.Common.{◌≡◌, ◌∙◌, ◌++◌, take, arith, add-o
 use Rattle.std.proofs.lemmas.List.{take_all}
 use Rattle.up_book.specs.Keys.{instance_place}
 use Rattle.up_engine.proofs.ClockLemmas.{instance_there, instances_length, killing_push}
-use Rattle.up_engine.proofs.KeyLemmas.{killed_there}
+use Rattle.up_cascade.proofs.KeyLemmas.{killed_there}
 use Rattle.up_model.specs.Clock.{killing}
 use Rattle.up_engine.proofs.time.kill_each.Goals as goal
 

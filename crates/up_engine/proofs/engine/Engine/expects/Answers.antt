@@ -1,6 +1,6 @@
 use Rattle.std.proofs.Common.{sym, subst}
 use Rattle.up_book.specs.Keys.{Resting}
-use Rattle.up_book.specs.Ledgers.{Stands}
+use Rattle.up_ledger.specs.Ledgers.{Stands}
 use Rattle.up_engine.proofs.engine.Engine.expects.Goals as goal
 
 pub returns : goal.returns

@@ -1,6 +1,6 @@
 use Rattle.std.proofs.Common.{◌≡◌, ◌∙◌, [], refl, ap, subst, sym}
 use Rattle.up_book.specs.Keys.{Resting}
-use Rattle.up_book.specs.Ledgers.{Stands}
+use Rattle.up_ledger.specs.Ledgers.{Stands}
 use Rattle.up_model.specs.Configuration.{Configuration, started_with}
 use Rattle.up_engine.proofs.Untrue.{rest-first}
 use Rattle.up_engine.proofs.engine.Engine.new.Goals as goal

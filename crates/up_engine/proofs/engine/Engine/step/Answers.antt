@@ -4,9 +4,9 @@ use Rattle.up_book.specs.Keys.{Resting}
 use Rattle.up_engine.proofs.TurnLemmas.{turn_told}
 use Rattle.up_engine.proofs.LeftLemmas.{left_after, sound_after}
 use Rattle.up_engine.specs.Free.{IsFree}
-use Rattle.up_engine.specs.Unfired.{IsAtRest}
+use Rattle.up_cascade.specs.Unfired.{IsAtRest}
 use Rattle.up_engine.proofs.Loading.{rest-after}
-use Rattle.up_book.specs.Ledgers.{Stands}
+use Rattle.up_ledger.specs.Ledgers.{Stands}
 use Rattle.up_model.specs.Answers.{after}
 use Rattle.up_model.specs.Loads.{in_force}
 use Rattle.up_engine.proofs.engine.Engine.step.Goals as goal

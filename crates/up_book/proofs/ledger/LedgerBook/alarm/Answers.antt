@@ -1,5 +1,0 @@
-use Rattle.up_book.proofs.Overdue.{none-overdue}
-use Rattle.up_book.proofs.ledger.LedgerBook.alarm.Goals as goal
-
-pub returns : goal.returns
-returns c mode config c' s before = none-overdue c.args.self.now.past config c' c.alarm.result s.past c.alarm.ensures before

@@ -1,4 +1,0 @@
-use Rattle.up_book.proofs.ledger.LedgerBook.live_events.Goals as goal
-
-pub returns : goal.returns
-returns c mode config c' s = c.live_events.ensures config c' s.past

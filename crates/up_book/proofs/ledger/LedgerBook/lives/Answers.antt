@@ -1,5 +1,0 @@
-use Rattle.up_book.proofs.Ledgers.{keyed}
-use Rattle.up_book.proofs.ledger.LedgerBook.lives.Goals as goal
-
-pub returns : goal.returns
-returns c mode config c' i s found = c.lives.ensures config c' i s.past (keyed c.args.self.now.past config c' c.args.key i s.past found)

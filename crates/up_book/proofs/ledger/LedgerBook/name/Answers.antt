@@ -1,4 +1,0 @@
-use Rattle.up_book.proofs.ledger.LedgerBook.name.Goals as goal
-
-pub returns : goal.returns
-returns c mode config c' its s here = c.name.ensures config c' its s.past here

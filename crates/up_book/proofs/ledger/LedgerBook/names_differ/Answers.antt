@@ -1,4 +1,0 @@
-use Rattle.up_book.proofs.ledger.LedgerBook.names_differ.Goals as goal
-
-pub returns : goal.returns
-returns c mode config c' s = s.past.regular.singles

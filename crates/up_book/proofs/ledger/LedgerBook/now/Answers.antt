@@ -1,4 +1,0 @@
-use Rattle.up_book.proofs.ledger.LedgerBook.now.Goals as goal
-
-pub returns : goal.returns
-returns c mode config c' s = c.now.ensures config c' s.past

@@ -1,4 +1,0 @@
-use Rattle.up_book.proofs.ledger.LedgerBook.turn.Goals as goal
-
-pub returns : goal.returns
-returns c config c' s = c.turn.ensures config c' s.past

@@ -1,5 +1,0 @@
-use Rattle.up_book.proofs.Tables.{indexed}
-use Rattle.up_book.proofs.ledger.index_of.Goals as goal
-
-pub returns : goal.returns
-returns c = indexed c.args.files.now c.in_ok-index.index c.in_ok-index.ensures.leaves

@@ -1,6 +1,0 @@
-use Rattle.std.proofs.Common.{◌∙◌}
-use Rattle.up_book.proofs.Finding.{counts}
-use Rattle.up_book.proofs.past.Past.count.Goals as goal
-
-pub returns : goal.returns
-returns c config c' its f there = c.count.ensures ∙ counts c.args.self.now config c' c.args.job its f there

@@ -1,0 +1,20 @@
+use Rattle.up_cascade.specs.Settling.{hear_stops}
+use Rattle.up_cascade.proofs.KeyLemmas.{job_name}
+use Rattle.up_model.specs.Chronicle.{Chronicle}
+use Rattle.up_model.specs.Instances.{instances_of}
+use Rattle.up_cascade.proofs.hear.hear.Goals as goal
+
+pub returns-clause-after : goal.returns-clause-after
+returns-clause-after g c c' e s there event =
+    let job = c.args.file.now in
+    let named = job_name c.args.setup.now c.args.index job there in
+    let d : Chronicle = hear_stops c.args.setup.now (instances_of job.name c') e c' in
+    c.in_ok-hear_start.ensures.after d e (c.in_ok-hear_stops.ensures.after c' job.name e s named event) there (c.in_ok-hear_stops.ensures.events c' job.name e c.args.event e s named event event)
+
+pub returns-clause-events : goal.returns-clause-events
+returns-clause-events g c c' e k j s there event known =
+    let job = c.args.file.now in
+    let named = job_name c.args.setup.now c.args.index job there in
+    let d : Chronicle = hear_stops c.args.setup.now (instances_of job.name c') e c' in
+    c.in_ok-hear_start.ensures.events d e k j (c.in_ok-hear_stops.ensures.after c' job.name e s named event) there (c.in_ok-hear_stops.ensures.events c' job.name e c.args.event e s named event event)
+    (c.in_ok-hear_stops.ensures.events c' job.name e k j s named event known)

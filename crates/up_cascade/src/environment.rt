@@ -1,0 +1,91 @@
+//! The environment of a start: that of the file by which its instance was made, and what the start adds (init(5), "Job environment").
+ghost use Rattle.std.specs.Prelude.{◌≡◌, ℕ, List, map, Option, Some, IfOk};
+ghost use Rattle.up_book.specs.Keys.{Mode, instance_place, job_at};
+ghost use Rattle.up_conf.specs.declared.job.JobDef.{JobDef as JobValue};
+ghost use Rattle.up_model.specs.Chronicle.{Chronicle};
+ghost use Rattle.up_model.specs.Commands as commands;
+ghost use Rattle.up_model.specs.Environments as environments;
+ghost use Rattle.up_model.specs.Events as events;
+ghost use Rattle.up_model.specs.Offers as offers;
+ghost use Rattle.up_model.specs.Readings as read;
+ghost use Rattle.up_text.specs.Bindings.{set_all};
+
+use crate::events::events_env;
+use crate::setup::Setup;
+use std::alloc::{AllocError, Global};
+use up_book::Book;
+use up_job::InstanceKey;
+use up_model::EventId;
+use up_text::Env;
+
+// The environment of the file by which an instance was made.
+fn own_env<B: Book>(setup: &Setup, book: &B, key: InstanceKey) -> Result<Env, AllocError>
+    ensures { IfOk result (λ own. (mode : Mode) (c : Chronicle) (i : ℕ)
+        → B.stands book.now mode setup.now c → instance_place setup.now c key ≡ Some i
+        → own ≡ environments.env_by_job setup.now.base (read.file_of i c)) }
+{
+    match book.file(key) {
+        Some(file) => {
+            let own = setup.environment_by(file.job())?;
+            Ok(own)
+        }
+        None => {
+            let own = setup.base().copy()?;
+            Ok(own)
+        }
+    }
+}
+
+/// The environment of a start by these events of the instance of this name. The job's, with what the events add, is at hand.
+pub(crate) fn start_env<B: Book>(
+    alloc: Global,
+    setup: &Setup,
+    book: &B,
+    index: usize,
+    name: &str,
+    at_hand: Env,
+    keys: &[EventId],
+) -> Result<Env, AllocError>
+    ensures { IfOk result (λ environment. (mode : Mode) (c : Chronicle) (job : JobValue) (places : List ℕ)
+        → B.stands book.now mode setup.now c → job_at setup.now index ≡ Some job
+        → map (B.event_place book.now c) keys.now ≡ map Some places
+        → at_hand ≡ events.events_env (environments.env_of_job setup.now job.name) (events.events_at places c)
+        → environment ≡ offers.start_env setup.now (offers.who_called job.name (Some name.now))
+        (events.events_at places c) c) }
+{
+    match book.find(index, name) {
+        Some(key) => {
+            drop(at_hand);
+            let own = own_env(setup, book, key)?;
+            let environment = events_env(alloc, &own, book, keys)?;
+            Ok(environment)
+        }
+        None => Ok(at_hand),
+    }
+}
+
+/// The environment that a request's start would give the instance of this name. The job's, with the request's variables, is at hand.
+pub fn request_start_env<B: Book>(
+    setup: &Setup,
+    book: &B,
+    index: usize,
+    name: &str,
+    at_hand: Env,
+    vars: &Env,
+) -> Result<Env, AllocError>
+    ensures { IfOk result (λ environment. (mode : Mode) (c : Chronicle) (job : JobValue)
+        → B.stands book.now mode setup.now c → job_at setup.now index ≡ Some job
+        → at_hand ≡ commands.request_env setup.now job vars.now
+        → environment ≡ set_all (environments.start_base setup.now
+        (record { job = job.name; instance = name.now }) c) vars.now) }
+{
+    match book.find(index, name) {
+        Some(key) => {
+            drop(at_hand);
+            let mut own = own_env(setup, book, key)?;
+            own.append(vars)?;
+            Ok(own)
+        }
+        None => Ok(at_hand),
+    }
+}

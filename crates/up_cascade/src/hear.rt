@@ -1,0 +1,225 @@
+//! How each job hears of the event that a turn takes up.
+ghost use Rattle.std.specs.Prelude.{◌≡◌, ◌≤◌, ◌<◌, ◌||◌, ℕ, true, ◌++◌, ◌∷◌, [], length, Some, IsOk, IfOk, IfSome, MatchOption, OnOk};
+ghost use Rattle.up_book.specs.Hearers.{hears, one_hears};
+ghost use Rattle.up_model.specs.declared.event_id.EventId.{EventId as EventIdValue};
+ghost use Rattle.up_book.specs.Keys.{Stepping, job_at, name_at, instance_at};
+ghost use Rattle.up_cascade.specs.Settling.{settle_one, ListsAfter};
+ghost use Rattle.up_cascade.specs.Settling as settling;
+ghost use Rattle.up_cascade.specs.Unfired.{NoneHolds};
+ghost use Rattle.up_cascade.specs.Unheard.{AreUnheard, NoneHears};
+ghost use Rattle.up_model.specs.declared.input.Input.TheVariants as given_as;
+ghost use Rattle.up_model.specs.Chronicle.{Chronicle};
+ghost use Rattle.up_model.specs.Chronicle as entry;
+ghost use Rattle.up_model.specs.Due.{due};
+ghost use Rattle.up_model.specs.Readings.{event_at};
+ghost use Rattle.up_model.specs.Instances.{Instance, instances_of};
+ghost use Rattle.up_model.specs.Offers as model;
+ghost use Rattle.up_model.specs.Values.{Bytes};
+
+use crate::moves::{file_of, moves};
+use crate::offers::{offer_start, offer_stop};
+use crate::settle::settle_each;
+use crate::setup::Setup;
+use std::alloc::{AllocError, Global};
+use up_book::Book;
+use up_image::JobFile;
+use up_job::InstanceKey;
+use up_model::{EventId, JobDef};
+
+// Offers the event to the `stop on` of an instance's file, and moves the instance on as long as it may; returns whether it is still there.
+fn hear_by<B: Book>(
+    alloc: Global,
+    setup: &Setup,
+    book: &mut B,
+    file: &JobFile,
+    key: InstanceKey,
+    event: EventId,
+) -> Result<bool, AllocError>
+    ensures after { OnOk result ((c : Chronicle) (its : Instance) (e : ℕ)
+        → B.stands book.old Stepping setup.now c
+        → instance_at setup.now c key ≡ Some its
+        → its.file ≡ file.now → B.event_place book.old c event ≡ Some e
+        → B.stands book.new Stepping setup.now
+        (settle_one 5 file.now its (model.stop_offer setup.now file.now its.place e c ++ c))) }
+    ensures lists { IfOk result (λ stays. (c : Chronicle) (its : Instance) (e : ℕ)
+        → B.stands book.old Stepping setup.now c
+        → instance_at setup.now c key ≡ Some its
+        → its.file ≡ file.now → B.event_place book.old c event ≡ Some e
+        → ListsAfter stays its c
+        (settle_one 5 file.now its (model.stop_offer setup.now file.now its.place e c ++ c))) }
+    ensures events { OnOk result ((c : Chronicle) (its : Instance) (e : ℕ) (k : EventIdValue) (j : ℕ)
+        → B.stands book.old Stepping setup.now c
+        → instance_at setup.now c key ≡ Some its
+        → its.file ≡ file.now → B.event_place book.old c event ≡ Some e
+        → B.event_place book.old c k ≡ Some j
+        → B.event_place book.new
+        (settle_one 5 file.now its (model.stop_offer setup.now file.now its.place e c ++ c)) k ≡ Some j) }
+{
+    offer_stop(alloc, setup, book, file, key, event)?;
+    let stays = moves(alloc, setup, book, file.job(), key)?;
+    Ok(stays)
+}
+
+// An instance hears of the event by its `stop on`; returns whether it is still there.
+fn hear_stop<B: Book>(
+    alloc: Global,
+    setup: &Setup,
+    book: &mut B,
+    key: InstanceKey,
+    event: EventId,
+) -> Result<bool, AllocError>
+    ensures after { OnOk result ((c : Chronicle) (its : Instance) (e : ℕ)
+        → B.stands book.old Stepping setup.now c
+        → instance_at setup.now c key ≡ Some its → B.event_place book.old c event ≡ Some e
+        → B.stands book.new Stepping setup.now
+        (settle_one 5 its.file its (model.stop_offer setup.now its.file its.place e c ++ c))) }
+    ensures lists { IfOk result (λ stays. (c : Chronicle) (its : Instance) (e : ℕ)
+        → B.stands book.old Stepping setup.now c
+        → instance_at setup.now c key ≡ Some its → B.event_place book.old c event ≡ Some e
+        → ListsAfter stays its c
+        (settle_one 5 its.file its (model.stop_offer setup.now its.file its.place e c ++ c))) }
+    ensures events { OnOk result ((c : Chronicle) (its : Instance) (e : ℕ) (k : EventIdValue) (j : ℕ)
+        → B.stands book.old Stepping setup.now c
+        → instance_at setup.now c key ≡ Some its → B.event_place book.old c event ≡ Some e
+        → B.event_place book.old c k ≡ Some j
+        → B.event_place book.new
+        (settle_one 5 its.file its (model.stop_offer setup.now its.file its.place e c ++ c)) k ≡ Some j) }
+{
+    match file_of(book, key)? {
+        Some(file) => {
+            let stays = hear_by(alloc, setup, book, &file, key, event)?;
+            Ok(stays)
+        }
+        None => Ok(false),
+    }
+}
+
+// Each instance of the job of an index hears of the event by its `stop on`.
+fn hear_stops<B: Book>(
+    alloc: Global,
+    setup: &Setup,
+    book: &mut B,
+    index: usize,
+    event: EventId,
+) -> Result<(), AllocError>
+    ensures after { OnOk result ((c : Chronicle) (name : Bytes) (e : ℕ) → B.stands book.old Stepping setup.now c
+        → name_at setup.now index ≡ Some name → B.event_place book.old c event ≡ Some e
+        → B.stands book.new Stepping setup.now (settling.hear_stops setup.now (instances_of name c) e c)) }
+    ensures events { OnOk result ((c : Chronicle) (name : Bytes) (e : ℕ) (k : EventIdValue) (j : ℕ)
+        → B.stands book.old Stepping setup.now c
+        → name_at setup.now index ≡ Some name → B.event_place book.old c event ≡ Some e
+        → B.event_place book.old c k ≡ Some j
+        → B.event_place book.new (settling.hear_stops setup.now (instances_of name c) e c) k ≡ Some j) }
+{
+    let mut at = 0;
+    for turn in 0..book.count(index) {
+        let key = InstanceKey { job: index, at };
+        if hear_stop(alloc, setup, book, key, event)? {
+            at += 1;
+        }
+    }
+    Ok(())
+}
+
+// A job hears of the event by its `start on`. Of its instances only the one that it starts may move on then.
+fn hear_start<B: Book>(
+    alloc: Global,
+    setup: &Setup,
+    book: &mut B,
+    index: usize,
+    file: &JobFile,
+    event: EventId,
+) -> Result<(), AllocError>
+    ensures after { OnOk result ((c : Chronicle) (e : ℕ) → B.stands book.old Stepping setup.now c
+        → job_at setup.now index ≡ Some file.now → B.event_place book.old c event ≡ Some e
+        → B.stands book.new Stepping setup.now (settling.hear_start setup.now file.now e c)) }
+    ensures events { OnOk result ((c : Chronicle) (e : ℕ) (k : EventIdValue) (j : ℕ) → B.stands book.old Stepping setup.now c
+        → job_at setup.now index ≡ Some file.now → B.event_place book.old c event ≡ Some e
+        → B.event_place book.old c k ≡ Some j
+        → B.event_place book.new (settling.hear_start setup.now file.now e c) k ≡ Some j) }
+{
+    offer_start(alloc, setup, book, index, file, event)?;
+    settle_each(alloc, setup, book, index)?;
+    Ok(())
+}
+
+// A job hears of the event.
+fn hear<B: Book>(
+    alloc: Global,
+    setup: &Setup,
+    book: &mut B,
+    index: usize,
+    file: &JobFile,
+    event: EventId,
+) -> Result<(), AllocError>
+    ensures after { OnOk result ((c : Chronicle) (e : ℕ) → B.stands book.old Stepping setup.now c
+        → job_at setup.now index ≡ Some file.now → B.event_place book.old c event ≡ Some e
+        → B.stands book.new Stepping setup.now (settling.hear setup.now file.now e c)) }
+    ensures events { OnOk result ((c : Chronicle) (e : ℕ) (k : EventIdValue) (j : ℕ) → B.stands book.old Stepping setup.now c
+        → job_at setup.now index ≡ Some file.now → B.event_place book.old c event ≡ Some e
+        → B.event_place book.old c k ≡ Some j
+        → B.event_place book.new (settling.hear setup.now file.now e c) k ≡ Some j) }
+{
+    hear_stops(alloc, setup, book, index, event)?;
+    hear_start(alloc, setup, book, index, file, event)?;
+    Ok(())
+}
+
+// The first job from an index of the table on that hears of the event, with its index.
+fn next_hearer<'a, B: Book>(
+    setup: &'a Setup,
+    book: &B,
+    event: EventId,
+    from: usize,
+) -> Option<(usize, &'a JobFile)>
+    ensures next { (c : Chronicle) (e : ℕ) → B.stands book.now Stepping setup.now c
+        → B.event_place book.now c event ≡ Some e
+        → MatchOption result (AreUnheard setup.now (event_at e c) c from (length setup.now.jobs))
+        (λ found. (job_at setup.now found.0 ≡ Some found.1.now)
+        × AreUnheard setup.now (event_at e c) c from found.0) }
+    ensures hears { (c : Chronicle) (e : ℕ) → B.stands book.now Stepping setup.now c
+        → B.event_place book.now c event ≡ Some e
+        → IfSome result (λ found. (hears found.1.now (event_at e c) || one_hears (event_at e c) (instances_of found.1.now.name c)) ≡ true) }
+    ensures within { IfSome result (λ found. (from ≤ found.0) × (found.0 < length setup.now.jobs)
+        × (found.0 < 18446744073709551615)) }
+{
+    let jobs = setup.jobs();
+    match book.next_hearer(jobs, event, from) {
+        Some(index) => {
+            if index < jobs.len() {
+                Some((index, &jobs[index]))
+            } else {
+                None
+            }
+        }
+        None => None,
+    }
+}
+
+/// Each job hears of the event that a turn takes up, one after another. The jobs that don't name it, or that rule it out by the literal
+/// values of their leaves, are passed by: what they remember of it is nothing.
+pub fn hear_all<B: Book>(
+    alloc: Global,
+    setup: &Setup,
+    book: &mut B,
+    event: EventId,
+) -> Result<(), AllocError>
+    ensures after { OnOk result ((c : Chronicle) (e : ℕ) → due setup.now c ≡ [] → NoneHolds setup.now c
+        → B.stands book.old Stepping setup.now (entry.Handled e ∷ entry.Given given_as.Turn ∷ c)
+        → B.event_place book.old (entry.Handled e ∷ entry.Given given_as.Turn ∷ c) event ≡ Some e
+        → B.stands book.new Stepping setup.now
+        (settling.hear_all setup.now setup.now.jobs e (entry.Handled e ∷ entry.Given given_as.Turn ∷ c))) }
+    ensures unheard { (c : Chronicle) (e : ℕ) → B.stands book.old Stepping setup.now c
+        → B.event_place book.old c event ≡ Some e → NoneHears setup.now (event_at e c) c
+        → IsOk result × (book.new ≡ book.old) }
+{
+    setup.names_differ();
+    let mut from = 0;
+    'hearers: while let Some((index, file)) = next_hearer(setup, book, event, from) {
+        book.passes_by();
+        hear(alloc, setup, book, index, file, event)?;
+        from = index + 1;
+    }
+    book.passes_by();
+    Ok(())
+}

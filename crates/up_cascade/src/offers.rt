@@ -1,0 +1,360 @@
+//! How the event of a turn is offered to the expressions, and what one does that fires.
+ghost use Rattle.std.specs.Prelude.{◌≡◌, ℕ, nat_lt, length, false, not, List, ◌∷◌, [], ◌++◌, map, Option, None, Some, option_map, IfOk, OnOk};
+ghost use Rattle.up_model.specs.declared.event_id.EventId.{EventId as EventIdValue};
+ghost use Rattle.up_book.specs.Keys.{job_at, Mode, Stepping, held_as, request_place, name_at, instance_place};
+ghost use Rattle.up_model.specs.Chronicle.{Chronicle};
+ghost use Rattle.up_model.specs.Chronicle as entry;
+ghost use Rattle.up_model.specs.Configuration.{Configuration};
+ghost use Rattle.up_conf.specs.declared.job.JobDef.{JobDef as JobValue};
+ghost use Rattle.up_model.specs.declared.who.Who.{Who as WhoValue};
+ghost use Rattle.up_model.specs.Environments as environments;
+ghost use Rattle.up_model.specs.Instances as model_instances;
+ghost use Rattle.up_model.specs.Offers as model;
+ghost use Rattle.up_model.specs.Seen.{seen, taken};
+ghost use Rattle.up_model.specs.Readings as read;
+ghost use Rattle.up_model.specs.Values.{Bytes};
+ghost use Rattle.up_text.specs.Scripts.{is_filled};
+
+use crate::environment::start_env;
+use crate::events::{add_instance, events_env, stop_env};
+use crate::life::is_start;
+use crate::setup::Setup;
+use std::alloc::{AllocError, Global};
+use up_book::{Book, Holders};
+use up_image::JobFile;
+use up_job::InstanceKey;
+use up_model::{EventId, Goal, JobDef, MAX_INSTANCES};
+use up_text::{Env, Expanded, Items, Name, Text, TextFault, expand};
+
+/// The goal becomes stop, with this environment and these holders.
+pub fn stop_of<B: Book>(
+    book: &mut B,
+    key: InstanceKey,
+    environment: Env,
+    holders: Holders,
+) -> Result<(), AllocError>
+    ensures after { OnOk result ((config : Configuration) (c : Chronicle) (i : ℕ) (places : List ℕ)
+        → B.stands book.old Stepping config c
+        → instance_place config c key ≡ Some i
+        → held_as (B.event_place book.old c) (request_place c) holders ≡ map Some places
+        → B.stands book.new Stepping config (model.stop_of i environment places c ++ c)) }
+    ensures events { OnOk result ((config : Configuration) (c : Chronicle) (i : ℕ) (places : List ℕ)
+        (k : EventIdValue) (j : ℕ)
+        → B.stands book.old Stepping config c → instance_place config c key ≡ Some i
+        → held_as (B.event_place book.old c) (request_place c) holders ≡ map Some places
+        → B.event_place book.old c k ≡ Some j
+        → B.event_place book.new (model.stop_of i environment places c ++ c) k ≡ Some j) }
+{
+    book.release(key)?;
+    book.aim(key, Goal::Stop, environment, holders)?;
+    Ok(())
+}
+
+// The goal becomes stop by these events, if it is start.
+fn stop_by<B: Book>(
+    alloc: Global,
+    book: &mut B,
+    key: InstanceKey,
+    holders: Items<EventId>,
+) -> Result<(), AllocError>
+    ensures after { OnOk result ((config : Configuration) (c : Chronicle) (i : ℕ) (events : List ℕ)
+        → B.stands book.old Stepping config c
+        → instance_place config c key ≡ Some i → map (B.event_place book.old c) holders ≡ map Some events
+        → B.stands book.new Stepping config (model.stop_by i events c ++ c)) }
+    ensures events { OnOk result ((config : Configuration) (c : Chronicle) (i : ℕ) (events : List ℕ)
+        (k : EventIdValue) (j : ℕ)
+        → B.stands book.old Stepping config c → instance_place config c key ≡ Some i
+        → map (B.event_place book.old c) holders ≡ map Some events → B.event_place book.old c k ≡ Some j
+        → B.event_place book.new (model.stop_by i events c ++ c) k ≡ Some j) }
+{
+    if is_start(book.goal(key)) {
+        let environment = stop_env(alloc, book, holders.as_slice())?;
+        stop_of(book, key, environment, Holders::Taken(holders))?;
+    }
+    Ok(())
+}
+
+// An instance's `stop on` fires.
+fn stop_fires<B: Book>(
+    alloc: Global,
+    setup: &Setup,
+    book: &mut B,
+    job: &JobDef,
+    key: InstanceKey,
+) -> Result<(), AllocError>
+    ensures after { OnOk result ((c : Chronicle) (i : ℕ) → B.stands book.old Stepping setup.now c
+        → instance_place setup.now c key ≡ Some i
+        → read.file_of i c ≡ Some job.now
+        → B.stands book.new Stepping setup.now
+        (model.stop_by i (taken job.now.stop_on (seen setup.now (entry.StopOn i) c))
+        (entry.Fired (entry.StopOn i) (taken job.now.stop_on (seen setup.now (entry.StopOn i) c)) ∷ c)
+        ++ entry.Fired (entry.StopOn i) (taken job.now.stop_on (seen setup.now (entry.StopOn i) c)) ∷ c)) }
+    ensures events { OnOk result ((c : Chronicle) (i : ℕ) (k : EventIdValue) (j : ℕ)
+        → B.stands book.old Stepping setup.now c → instance_place setup.now c key ≡ Some i
+        → read.file_of i c ≡ Some job.now
+        → B.event_place book.old c k ≡ Some j
+        → B.event_place book.new (model.stop_by i (taken job.now.stop_on (seen setup.now (entry.StopOn i) c))
+        (entry.Fired (entry.StopOn i) (taken job.now.stop_on (seen setup.now (entry.StopOn i) c)) ∷ c) ++
+        entry.Fired (entry.StopOn i) (taken job.now.stop_on (seen setup.now (entry.StopOn i) c)) ∷ c) k ≡ Some j) }
+{
+    let holders = book.fire_stop(job, key)?;
+    stop_by(alloc, book, key, holders)?;
+    Ok(())
+}
+
+/// Offers the event to an instance's `stop on`.
+pub(crate) fn offer_stop<B: Book>(
+    alloc: Global,
+    setup: &Setup,
+    book: &mut B,
+    file: &JobFile,
+    key: InstanceKey,
+    event: EventId,
+) -> Result<(), AllocError>
+    ensures after { OnOk result ((c : Chronicle) (i e : ℕ) → B.stands book.old Stepping setup.now c
+        → instance_place setup.now c key ≡ Some i
+        → read.file_of i c ≡ Some file.now → B.event_place book.old c event ≡ Some e
+        → B.stands book.new Stepping setup.now (model.stop_offer setup.now file.now i e c ++ c)) }
+    ensures events { OnOk result ((c : Chronicle) (i e : ℕ) (k : EventIdValue) (j : ℕ)
+        → B.stands book.old Stepping setup.now c → instance_place setup.now c key ≡ Some i
+        → read.file_of i c ≡ Some file.now
+        → B.event_place book.old c event ≡ Some e → B.event_place book.old c k ≡ Some j
+        → B.event_place book.new (model.stop_offer setup.now file.now i e c ++ c) k ≡ Some j) }
+{
+    let holds = book.offer_stop(file, key, event)?;
+    if holds {
+        stop_fires(alloc, setup, book, file.job(), key)?;
+    }
+    Ok(())
+}
+
+// The goal of an instance becomes start, if it is stop.
+fn start_old<B: Book>(
+    book: &mut B,
+    key: InstanceKey,
+    environment: Env,
+    holders: Holders,
+) -> Result<(), AllocError>
+    ensures after { OnOk result ((config : Configuration) (c : Chronicle) (job : JobValue) (who : WhoValue) (i : ℕ)
+        (places : List ℕ) → B.stands book.old Stepping config c
+        → instance_place config c key ≡ Some i
+        → held_as (B.event_place book.old c) (request_place c) holders ≡ map Some places
+        → B.stands book.new Stepping config (model.start_of job who environment places (Some i) c ++ c)) }
+    ensures events { OnOk result ((config : Configuration) (c : Chronicle) (job : JobValue) (who : WhoValue) (i : ℕ)
+        (places : List ℕ) (k : EventIdValue) (j : ℕ)
+        → B.stands book.old Stepping config c → instance_place config c key ≡ Some i
+        → held_as (B.event_place book.old c) (request_place c) holders ≡ map Some places
+        → B.event_place book.old c k ≡ Some j
+        → B.event_place book.new (model.start_of job who environment places (Some i) c ++ c) k ≡ Some j) }
+{
+    if !is_start(book.goal(key)) {
+        book.release(key)?;
+        book.aim(key, Goal::Start, environment, holders)?;
+    }
+    Ok(())
+}
+
+/// Whether a job may have an instance more.
+pub fn has_room<B: Book>(book: &B, job: usize) -> bool
+    ensures { (mode : Mode) (config : Configuration) (c : Chronicle) (its : Bytes)
+        → B.stands book.now mode config c → name_at config job ≡ Some its
+        → result ≡ nat_lt (length (model_instances.instances_of its c)) model.max_instances }
+{
+    book.count(job) < MAX_INSTANCES
+}
+
+// A job gets an instance, whose goal becomes start, if it may have one more.
+fn start_new<B: Book>(
+    book: &mut B,
+    index: usize,
+    file: &JobFile,
+    name: &str,
+    environment: Env,
+    holders: Holders,
+) -> Result<(), AllocError>
+    ensures after { OnOk result ((config : Configuration) (c : Chronicle) (places : List ℕ)
+        → B.stands book.old Stepping config c → job_at config index ≡ Some file.now
+        → model_instances.instance_named (record { job = file.now.name; instance = name.now }) c ≡ None
+        → held_as (B.event_place book.old c) (request_place c) holders ≡ map Some places
+        → B.stands book.new Stepping config (model.start_of file.now
+        (record { job = file.now.name; instance = name.now }) environment places None c ++ c)) }
+    ensures events { OnOk result ((config : Configuration) (c : Chronicle) (places : List ℕ)
+        (k : EventIdValue) (j : ℕ)
+        → B.stands book.old Stepping config c → job_at config index ≡ Some file.now
+        → model_instances.instance_named (record { job = file.now.name; instance = name.now }) c ≡ None
+        → held_as (B.event_place book.old c) (request_place c) holders ≡ map Some places
+        → B.event_place book.old c k ≡ Some j
+        → B.event_place book.new (model.start_of file.now (record { job = file.now.name; instance = name.now }) environment places
+        None c ++ c) k ≡ Some j) }
+{
+    if has_room(book, index) {
+        let key = book.make(index, file, name)?;
+        book.aim(key, Goal::Start, environment, holders)?;
+    }
+    Ok(())
+}
+
+// The goal of an instance becomes start with this environment.
+fn start_of<B: Book>(
+    book: &mut B,
+    index: usize,
+    file: &JobFile,
+    name: &str,
+    environment: Env,
+    holders: Holders,
+) -> Result<(), AllocError>
+    ensures after { OnOk result ((config : Configuration) (c : Chronicle) (places : List ℕ)
+        → B.stands book.old Stepping config c → job_at config index ≡ Some file.now
+        → held_as (B.event_place book.old c) (request_place c) holders ≡ map Some places
+        → B.stands book.new Stepping config
+        (model.start_of file.now (record { job = file.now.name; instance = name.now }) environment places
+        (model_instances.instance_named (record { job = file.now.name; instance = name.now }) c) c ++ c)) }
+    ensures events { OnOk result ((config : Configuration) (c : Chronicle) (places : List ℕ)
+        (k : EventIdValue) (j : ℕ)
+        → B.stands book.old Stepping config c → job_at config index ≡ Some file.now
+        → held_as (B.event_place book.old c) (request_place c) holders ≡ map Some places
+        → B.event_place book.old c k ≡ Some j
+        → B.event_place book.new (model.start_of file.now (record { job = file.now.name; instance = name.now }) environment places
+        (model_instances.instance_named (record { job = file.now.name; instance = name.now }) c) c ++ c) k ≡ Some j) }
+{
+    match book.find(index, name) {
+        Some(key) => start_old(book, key, environment, holders)?,
+        None => start_new(book, index, file, name, environment, holders)?,
+    }
+    Ok(())
+}
+
+/// The goal of an instance becomes start with this environment, and what that says of the instance. The job has this index.
+pub fn start_called<B: Book>(
+    book: &mut B,
+    index: usize,
+    file: &JobFile,
+    name: &str,
+    mut environment: Env,
+    holders: Holders,
+) -> Result<(), AllocError>
+    ensures after { OnOk result ((config : Configuration) (c : Chronicle) (places : List ℕ)
+        → B.stands book.old Stepping config c → job_at config index ≡ Some file.now
+        → held_as (B.event_place book.old c) (request_place c) holders ≡ map Some places
+        → B.stands book.new Stepping config (model.start_who file.now environment places
+        (model.who_called file.now.name (Some name.now)) c ++ c)) }
+    ensures events { OnOk result ((config : Configuration) (c : Chronicle) (places : List ℕ)
+        (k : EventIdValue) (j : ℕ)
+        → B.stands book.old Stepping config c → job_at config index ≡ Some file.now
+        → held_as (B.event_place book.old c) (request_place c) holders ≡ map Some places
+        → B.event_place book.old c k ≡ Some j
+        → B.event_place book.new (model.start_who file.now environment places (model.who_called file.now.name (Some name.now))
+        c ++ c) k ≡ Some j) }
+{
+    add_instance(&mut environment, &file.job().name, name)?;
+    start_of(book, index, file, name, environment, holders)?;
+    Ok(())
+}
+
+// The name of the instance that a start or a command concerns, if it expands.
+#[tactic(auto, using(crate::proofs::SetupLemmas::gives_text, crate::proofs::SetupLemmas::gives_unset, crate::proofs::SetupLemmas::gives_malformed))]
+fn instance_name(alloc: Global, job: &JobDef, environment: &Env) -> Result<Option<Text>, AllocError>
+    ensures { IfOk result (λ name. name ≡ environments.instance_name job.now environment.now) }
+{
+    match expand(alloc, job.instance.as_str(), environment) {
+        Ok(Expanded::Text(name)) => Ok(Some(name)),
+        Ok(Expanded::Unset(_)) => Ok(None),
+        Err(TextFault::BadExpansion) => Ok(None),
+        Err(_) => Err(AllocError),
+    }
+}
+
+// A start by these events.
+fn start_by<B: Book>(
+    alloc: Global,
+    setup: &Setup,
+    book: &mut B,
+    index: usize,
+    file: &JobFile,
+    holders: Items<EventId>,
+) -> Result<(), AllocError>
+    ensures after { OnOk result ((c : Chronicle) (events : List ℕ) → B.stands book.old Stepping setup.now c
+        → job_at setup.now index ≡ Some file.now
+        → map (B.event_place book.old c) holders ≡ map Some events
+        → B.stands book.new Stepping setup.now (model.start_by setup.now file.now events c ++ c)) }
+    ensures events { OnOk result ((c : Chronicle) (events : List ℕ) (k : EventIdValue) (j : ℕ)
+        → B.stands book.old Stepping setup.now c → job_at setup.now index ≡ Some file.now
+        → map (B.event_place book.old c) holders ≡ map Some events → B.event_place book.old c k ≡ Some j
+        → B.event_place book.new (model.start_by setup.now file.now events c ++ c) k ≡ Some j) }
+{
+    let base = setup.environment_at(index);
+    let environment = events_env(alloc, base, book, holders.as_slice())?;
+    match instance_name(alloc, file.job(), &environment)? {
+        Some(name) => {
+            let keys = holders.as_slice();
+            let environment = start_env(
+                alloc,
+                setup,
+                book,
+                index,
+                name.as_str(),
+                environment,
+                keys,
+            )?;
+            let holders = Holders::Taken(holders);
+            start_called(book, index, file, name.as_str(), environment, holders)?;
+        }
+        None => {}
+    }
+    Ok(())
+}
+
+// A job's `start on` fires.
+fn start_fires<B: Book>(
+    alloc: Global,
+    setup: &Setup,
+    book: &mut B,
+    index: usize,
+    file: &JobFile,
+) -> Result<(), AllocError>
+    ensures after { OnOk result ((c : Chronicle) → B.stands book.old Stepping setup.now c
+        → job_at setup.now index ≡ Some file.now
+        → B.stands book.new Stepping setup.now
+        (model.start_by setup.now file.now
+        (taken file.now.start_on (seen setup.now (entry.StartOn file.now.name) c))
+        (entry.Fired (entry.StartOn file.now.name)
+        (taken file.now.start_on (seen setup.now (entry.StartOn file.now.name) c)) ∷ c)
+        ++ entry.Fired (entry.StartOn file.now.name)
+        (taken file.now.start_on (seen setup.now (entry.StartOn file.now.name) c)) ∷ c)) }
+    ensures events { OnOk result ((c : Chronicle) (k : EventIdValue) (j : ℕ)
+        → B.stands book.old Stepping setup.now c → job_at setup.now index ≡ Some file.now
+        → B.event_place book.old c k ≡ Some j
+        → B.event_place book.new (model.start_by setup.now file.now (taken file.now.start_on (seen setup.now
+        (entry.StartOn file.now.name) c)) (entry.Fired (entry.StartOn file.now.name) (taken file.now.start_on
+        (seen setup.now (entry.StartOn file.now.name) c)) ∷ c) ++ entry.Fired (entry.StartOn file.now.name)
+        (taken file.now.start_on (seen setup.now (entry.StartOn file.now.name) c)) ∷ c) k ≡ Some j) }
+{
+    let holders = book.fire_start(index, file.job())?;
+    start_by(alloc, setup, book, index, file, holders)?;
+    Ok(())
+}
+
+/// Offers the event to a job's `start on`.
+pub(crate) fn offer_start<B: Book>(
+    alloc: Global,
+    setup: &Setup,
+    book: &mut B,
+    index: usize,
+    file: &JobFile,
+    event: EventId,
+) -> Result<(), AllocError>
+    ensures after { OnOk result ((c : Chronicle) (e : ℕ) → B.stands book.old Stepping setup.now c
+        → job_at setup.now index ≡ Some file.now
+        → B.event_place book.old c event ≡ Some e
+        → B.stands book.new Stepping setup.now (model.start_offer setup.now file.now e c ++ c)) }
+    ensures events { OnOk result ((c : Chronicle) (e : ℕ) (k : EventIdValue) (j : ℕ)
+        → B.stands book.old Stepping setup.now c → job_at setup.now index ≡ Some file.now
+        → B.event_place book.old c event ≡ Some e → B.event_place book.old c k ≡ Some j
+        → B.event_place book.new (model.start_offer setup.now file.now e c ++ c) k ≡ Some j) }
+{
+    let holds = book.offer_start(index, file.job(), setup.environment_at(index), event)?;
+    if holds {
+        start_fires(alloc, setup, book, index, file)?;
+    }
+    Ok(())
+}

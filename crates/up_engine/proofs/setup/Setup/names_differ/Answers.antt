@@ -1,5 +1,0 @@
-use Rattle.up_engine.proofs.SetupLemmas.{order-distinct}
-use Rattle.up_engine.proofs.setup.Setup.names_differ.Goals as goal
-
-pub returns : goal.returns
-returns c = rw (← c.self.view_is) (order-distinct c.self.inside.files.items c.self.invariant.1)

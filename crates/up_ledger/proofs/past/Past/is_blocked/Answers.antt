@@ -1,0 +1,15 @@
+use Rattle.std.proofs.Common.{◌∙◌, sym, ap}
+use Rattle.std.specs.Option.{option_copied}
+use Rattle.up_model.specs.Queue.{queue}
+use Rattle.up_ledger.specs.Eventing.{place_of}
+use Rattle.up_model.specs.Readings.{blocker}
+use Rattle.up_ledger.proofs.Knowing.{knows, is_there, is_some-known}
+use Rattle.up_ledger.proofs.past.Past.is_blocked.Goals as goal
+
+pub returns-in-Some : goal.returns-in-Some
+returns-in-Some c config c' i f found =
+    let its = knows (place_of c.args.self.now.events (queue c')) c.args.self.now.instances config c' c.args.key i c.in-Some.kept.now f.lives found (sym c.at.ensures ∙ ap option_copied c.in-Some.is) in
+    c.is_blocked.ensures ∙ is_some-known (place_of c.args.self.now.events (queue c')) c.in-Some.kept.now.blocker (blocker i c') its.blocker
+
+pub returns-in-None : goal.returns-in-None
+returns-in-None c config c' i f found = is_there (place_of c.args.self.now.events (queue c')) c.args.self.now.instances config c' c.args.key i f.lives found (sym c.at.ensures ∙ ap option_copied c.in-None.is)

@@ -1,0 +1,263 @@
+//! Offers of events to expressions, and what becomes of those that fire.
+ghost use Rattle.std.specs.Prelude.{◌≡◌, ◌++◌, ◌∷◌, ℕ, List, [], false, true, map, replicate, Some, IfOk, OnOk};
+ghost use Rattle.up_ledger.specs.Eventing.{SamePlaces};
+ghost use Rattle.up_ledger.specs.Hearing.{Fires, Hears, trigger_at, trigger_in};
+ghost use Rattle.up_book.specs.Hearers.{HasLeaves};
+ghost use Rattle.up_ledger.specs.Holding.{freed, all_changed, as_holders};
+ghost use Rattle.up_conf.specs.declared.job.JobDef.{JobDef as JobValue};
+ghost use Rattle.up_event.specs.LiveEvents.{named as named_event, with_hold};
+ghost use Rattle.up_event.specs.declared.live.LiveEvent.{LiveEvent as LiveEventValue};
+ghost use Rattle.up_image.specs.Index.{named};
+ghost use Rattle.up_job.specs.JobLists.{changed_at};
+ghost use Rattle.up_job.specs.Lending.{with_stop_on};
+ghost use Rattle.up_job.specs.Lists.{nth, with_at};
+ghost use Rattle.up_marks.specs.Naming.{naming_in, of_expression};
+ghost use Rattle.up_model.specs.Chronicle.{Chronicle};
+ghost use Rattle.up_model.specs.Chronicle as entry;
+ghost use Rattle.up_model.specs.Configuration.{Configuration};
+ghost use Rattle.up_model.specs.Environments.{env_of_job};
+ghost use Rattle.up_model.specs.Readings as read;
+ghost use Rattle.up_model.specs.Seen as seen;
+
+use crate::hearing::{fire_start, fire_stop, offer_to_start, offer_to_stop};
+use crate::holding::{free_ids, hold_times};
+use crate::past::Past;
+use std::alloc::{AllocError, Global};
+use up_conf::JobDef;
+use up_image::JobFile;
+use up_job::InstanceKey;
+use up_marks::{Firing, Index, Offer, stop_leaves};
+use up_model::EventId;
+use up_text::{Env, Items};
+
+// The number of a job in an index, which has room for as many as a table may have.
+fn number_of(job: usize) -> Result<u16, AllocError>
+    ensures { IfOk result (λ number. number ≡ job) }
+{
+    match u16::try_from(job) {
+        Ok(number) => Ok(number),
+        Err(_) => Err(AllocError),
+    }
+}
+
+impl Past {
+    ghost use Rattle.up_ledger.specs.Standing.{Forgets, event_place, instance_place};
+
+    fn env_copy(&self, alloc: Global, key: InstanceKey) -> Result<Env, AllocError>
+        ensures { IfOk result (λ env. (config : Configuration) (c : Chronicle) (i : ℕ) → Forgets self.now config c
+            → instance_place self.now c key ≡ Some i → env ≡ read.env i c) }
+    {
+        match self.env(key) {
+            Some(env) => {
+                let env = env.copy()?;
+                Ok(env)
+            }
+            None => Ok(Env::new(alloc)),
+        }
+    }
+
+    fn offer_to_stop(
+        &mut self,
+        alloc: Global,
+        key: InstanceKey,
+        file: &JobFile,
+        id: EventId,
+        env: &Env,
+    ) -> Result<Offer, AllocError>
+        ensures only { OnOk result (self.new ≡ record self.old {
+          instances = changed_at key (with_stop_on (trigger_at key self.new.instances)) self.old.instances;
+        }) }
+        ensures hears { IfOk result (λ offer. (live : LiveEventValue) → named_event id self.old.events ≡ Some live
+            → Hears (trigger_at key self.old.instances) (trigger_at key self.new.instances) file.now.stop_on
+            (naming_in file.now.stop_on live.event.name) id live.event env.now offer) }
+    {
+        match self.events.find(id) {
+            Some(live) => {
+                let leaves = stop_leaves(file, &live.event.name);
+                let offer = offer_to_stop(
+                    &mut self.instances,
+                    key,
+                    alloc,
+                    &file.job().stop_on,
+                    leaves,
+                    id,
+                    &live.event,
+                    env,
+                )?;
+                Ok(offer)
+            }
+            None => Err(AllocError),
+        }
+    }
+
+    /// An event is offered to the `stop on` of an instance; returns whether that is true then.
+    pub(crate) fn offer_stop(
+        &mut self,
+        alloc: Global,
+        key: InstanceKey,
+        file: &JobFile,
+        id: EventId,
+    ) -> Result<bool, AllocError>
+        ensures after { OnOk result ((config : Configuration) (c : Chronicle) (i e : ℕ) → Forgets self.old config c
+            → instance_place self.old c key ≡ Some i → read.file_of i c ≡ Some file.now
+            → event_place self.old c id ≡ Some e
+            → Forgets self.new config (entry.Offered (entry.StopOn i) e ∷ c)) }
+        ensures holds { IfOk result (λ holds. (config : Configuration) (c : Chronicle) (i e : ℕ)
+            → Forgets self.old config c
+            → instance_place self.old c key ≡ Some i → read.file_of i c ≡ Some file.now
+            → event_place self.old c id ≡ Some e
+            → holds ≡ seen.holds file.now.stop_on
+            (seen.seen config (entry.StopOn i) (entry.Offered (entry.StopOn i) e ∷ c))) }
+        ensures places { OnOk result (SamePlaces self.new.events self.old.events) }
+    {
+        let env = self.env_copy(alloc, key)?;
+        let offer = self.offer_to_stop(alloc, key, file, id, &env)?;
+        hold_times(&mut self.events, id, offer.kept)?;
+        Ok(offer.holds)
+    }
+
+    fn offer_to_start(
+        &mut self,
+        alloc: Global,
+        index: &Index,
+        place: usize,
+        job: &JobDef,
+        id: EventId,
+        env: &Env,
+    ) -> Result<Offer, AllocError>
+        ensures instances { OnOk result (self.new.instances ≡ self.old.instances) }
+        ensures starts { OnOk result (self.new.starts.items
+            ≡ with_at place (λ old. trigger_in place self.new.starts.items) self.old.starts.items) }
+        ensures events { OnOk result (self.new.events ≡ self.old.events) }
+        ensures reading { OnOk result (self.new.reading ≡ self.old.reading) }
+        ensures hears { IfOk result (λ offer. (live : LiveEventValue) → named_event id self.old.events ≡ Some live
+            → Hears (trigger_in place self.old.starts.items) (trigger_in place self.new.starts.items) job.now.start_on
+            (map (λ place. place.node) (of_expression place true (named live.event.name index.now)))
+            id live.event env.now offer) }
+    {
+        let number = number_of(place)?;
+        match self.events.find(id) {
+            Some(live) => {
+                let leaves = index.leaves(&live.event.name, number, true);
+                let offer = offer_to_start(
+                    &mut self.starts,
+                    place,
+                    alloc,
+                    &job.start_on,
+                    leaves,
+                    id,
+                    &live.event,
+                    env,
+                )?;
+                Ok(offer)
+            }
+            None => Err(AllocError),
+        }
+    }
+
+    /// An event is offered to the `start on` of the job at a place of the table, whose environment this is; returns whether that is
+    /// true then.
+    pub(crate) fn offer_start(
+        &mut self,
+        alloc: Global,
+        index: &Index,
+        place: usize,
+        job: &JobDef,
+        env: &Env,
+        id: EventId,
+    ) -> Result<bool, AllocError>
+        ensures after { OnOk result ((config : Configuration) (c : Chronicle) (e : ℕ) → Forgets self.old config c
+            → nth place config.jobs ≡ Some job.now → env.now ≡ env_of_job config job.now.name
+            → HasLeaves index.now place true job.now.start_on → event_place self.old c id ≡ Some e
+            → Forgets self.new config (entry.Offered (entry.StartOn job.now.name) e ∷ c)) }
+        ensures holds { IfOk result (λ holds. (config : Configuration) (c : Chronicle) (e : ℕ)
+            → Forgets self.old config c
+            → nth place config.jobs ≡ Some job.now → env.now ≡ env_of_job config job.now.name
+            → HasLeaves index.now place true job.now.start_on → event_place self.old c id ≡ Some e
+            → holds ≡ seen.holds job.now.start_on
+            (seen.seen config (entry.StartOn job.now.name) (entry.Offered (entry.StartOn job.now.name) e ∷ c))) }
+        ensures places { OnOk result (SamePlaces self.new.events self.old.events) }
+    {
+        let offer = self.offer_to_start(alloc, index, place, job, id, env)?;
+        hold_times(&mut self.events, id, offer.kept)?;
+        Ok(offer.holds)
+    }
+
+    fn fire_stop_of(
+        &mut self,
+        alloc: Global,
+        key: InstanceKey,
+        job: &JobDef,
+    ) -> Result<Firing, AllocError>
+        ensures only { OnOk result (self.new ≡ record self.old {
+          instances = changed_at key (with_stop_on (trigger_at key self.new.instances)) self.old.instances;
+        }) }
+        ensures fires { IfOk result (λ firing. Fires (trigger_at key self.old.instances)
+            (trigger_at key self.new.instances) job.now.stop_on firing) }
+    {
+        let firing = fire_stop(&mut self.instances, key, alloc, &job.stop_on)?;
+        Ok(firing)
+    }
+
+    /// The `stop on` of an instance fires; returns the events that it takes, from left to right.
+    pub(crate) fn fire_stop(
+        &mut self,
+        alloc: Global,
+        key: InstanceKey,
+        job: &JobDef,
+    ) -> Result<Items<EventId>, AllocError>
+        ensures after { OnOk result ((config : Configuration) (c : Chronicle) (i : ℕ) (ts : List ℕ)
+            → Forgets self.old config c → instance_place self.old c key ≡ Some i
+            → read.file_of i c ≡ Some job.now
+            → Forgets self.new config (entry.Fired (entry.StopOn i) ts ∷ c)) }
+        ensures taken { IfOk result (λ taken. (config : Configuration) (c : Chronicle) (i : ℕ) (ts : List ℕ)
+            → Forgets self.old config c → instance_place self.old c key ≡ Some i
+            → read.file_of i c ≡ Some job.now
+            → map (event_place self.new (entry.Fired (entry.StopOn i) ts ∷ c)) taken
+            ≡ map Some (seen.taken job.now.stop_on (seen.seen config (entry.StopOn i) c))) }
+        ensures places { OnOk result (SamePlaces self.new.events self.old.events) }
+    {
+        let Firing { taken, kept } = self.fire_stop_of(alloc, key, job)?;
+        free_ids(&mut self.events, kept.as_slice());
+        Ok(taken)
+    }
+
+    fn fire_start_of(
+        &mut self,
+        alloc: Global,
+        place: usize,
+        job: &JobDef,
+    ) -> Result<Firing, AllocError>
+        ensures instances { OnOk result (self.new.instances ≡ self.old.instances) }
+        ensures starts { OnOk result (self.new.starts.items
+            ≡ with_at place (λ old. trigger_in place self.new.starts.items) self.old.starts.items) }
+        ensures events { OnOk result (self.new.events ≡ self.old.events) }
+        ensures reading { OnOk result (self.new.reading ≡ self.old.reading) }
+        ensures fires { IfOk result (λ firing. Fires (trigger_in place self.old.starts.items)
+            (trigger_in place self.new.starts.items) job.now.start_on firing) }
+    {
+        let firing = fire_start(&mut self.starts, place, alloc, &job.start_on)?;
+        Ok(firing)
+    }
+
+    /// The `start on` of the job at a place of the table fires; returns the events that it takes, from left to right.
+    pub(crate) fn fire_start(
+        &mut self,
+        alloc: Global,
+        place: usize,
+        job: &JobDef,
+    ) -> Result<Items<EventId>, AllocError>
+        ensures after { OnOk result ((config : Configuration) (c : Chronicle) (ts : List ℕ) → Forgets self.old config c
+            → nth place config.jobs ≡ Some job.now
+            → Forgets self.new config (entry.Fired (entry.StartOn job.now.name) ts ∷ c)) }
+        ensures taken { IfOk result (λ taken. (config : Configuration) (c : Chronicle) (ts : List ℕ)
+            → Forgets self.old config c → nth place config.jobs ≡ Some job.now
+            → map (event_place self.new (entry.Fired (entry.StartOn job.now.name) ts ∷ c)) taken
+            ≡ map Some (seen.taken job.now.start_on (seen.seen config (entry.StartOn job.now.name) c))) }
+        ensures places { OnOk result (SamePlaces self.new.events self.old.events) }
+    {
+        let Firing { taken, kept } = self.fire_start_of(alloc, place, job)?;
+        free_ids(&mut self.events, kept.as_slice());
+        Ok(taken)
+    }
+}
