@@ -236,6 +236,11 @@ index_names at (suc k) side (job ∷ jobs) d name below =
     ∙ ap (λ n. map node_of (of_expression n side (named name (places_of (at + 1) jobs)))) e
     ∙ index_names (at + 1) k side jobs d name (omega arith)
 
+pub places-leaves : (jobs : List JobDef) (name : Bytes) (k : ℕ) (side : Bool) (d : JobDef) → k < length jobs → map node_of (of_expression k side (named name (places_of 0 jobs))) ≡ naming_in (side_of side (get_or jobs k d)) name
+places-leaves jobs name k side d below =
+    let e : 0 + k ≡ k = omega arith in
+    ap (λ n. map node_of (of_expression n side (named name (places_of 0 jobs)))) (sym e) ∙ index_names 0 k side jobs d name below
+
 -- the places of jobs come in the order of expressions
 pub rising_lower : (low high : ℕ) (places : List Place) → low ≤ high → Rising high places → Rising low places
 rising_lower low high [] le up = tt

@@ -13,3 +13,5 @@ pub mod Triggers
 pub mod Ruling
 -- When marks are those of an expression's nodes, told of each node by itself and those that it joins.
 pub mod Settling
+-- Which value a leaf wants of an event, and which job is the first with a leaf that may match one.
+pub mod Finding

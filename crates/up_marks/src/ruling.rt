@@ -25,7 +25,8 @@ fn is_literal_byte(byte: u8) -> bool
     byte != b'$' && !(byte == b'*' || byte == b'?' || byte == b'[' || byte == b'\\')
 }
 
-fn is_literal(text: &[u8]) -> bool
+/// Whether a text stands for itself alone, whatever expands it and matches it as a pattern.
+pub(crate) fn is_literal(text: &[u8]) -> bool
     ensures { result ≡ ruling.is_literal text.now }
 {
     text.iter().all(|byte| is_literal_byte(*byte))
@@ -146,7 +147,8 @@ pub(crate) fn leaf_in<'a>(condition: Option<&'a Condition>, at: usize) -> Option
     }
 }
 
-fn leaf_at<'a>(jobs: &'a [JobFile], place: &Place) -> Option<&'a Leaf>
+/// The leaf at a place of a table, if it is one.
+pub(crate) fn leaf_at<'a>(jobs: &'a [JobFile], place: &Place) -> Option<&'a Leaf>
     ensures { option_copied result ≡ ruling.leaf_at jobs.now place.now }
 {
     match jobs.get(usize::from(place.job)) {

@@ -1,0 +1,14 @@
+use Rattle.std.proofs.Common.{◌+◌, sym, subst, take}
+use Rattle.up_marks.specs.Finding.{IsLeastFrom, has_wanted}
+use Rattle.up_marks.specs.Ruling.{admits}
+use Rattle.up_marks.proofs.Finding.{least-more}
+use Rattle.up_marks.proofs.finder.next_wanted.Goals as goal
+
+pub loop-i-preserved : goal.loop-i-preserved
+loop-i-preserved c =
+    let test = admits c.args.jobs.now c.args.event.now in
+    let name = c.args.event.now.name in
+    let vars = c.args.event.now.vars in
+    let leaves = c.args.leaves.now in
+    subst (IsLeastFrom (has_wanted test name (take (c.loop-i.i + 1) vars) leaves) c.args.from) (sym c.lesser_of-next.ensures)
+    (least-more test name vars leaves c.args.from c.loop-i.i c.at.result.0.now c.at.result.1.now c.loop-i.next c.next_wanting.result c.at.ensures.pair c.loop-i.invariant c.next_wanting.ensures)

@@ -1,0 +1,177 @@
+//! From an event and its values to the jobs that it may concern.
+ghost use Rattle.std.specs.Prelude.{◌≡◌, ◌≤◌, true, false, IfOk, IfSome, length};
+ghost use Rattle.std.specs.Cmp.Lexicographic.{slice_cmp};
+ghost use Rattle.std.specs.List.Sorted.{IsPartitionPoint, IsPermutation};
+ghost use Rattle.std.specs.Ordering.{nat_cmp, ordering_then};
+ghost use Rattle.up_image.specs.Index.{named, places_of};
+ghost use Rattle.up_marks.specs.Finding as finding;
+ghost use Rattle.up_marks.specs.Finding.{AreOrdered, Finds, IsLeastFrom, IsNextJob, first_wanting, has_wanted, has_wanting, is_before, key_of, lesser};
+ghost use Rattle.up_marks.specs.Ruling.{admits};
+
+use crate::ruling::admits;
+use crate::wanted::{Wanted, wanting_each};
+use std::alloc::{AllocError, Global};
+use std::cmp::Ordering;
+use std::marker::Model;
+use up_image::{JobFile, MAX_JOBS, places_of_files};
+use up_model::Event;
+use up_text::Name;
+
+/// The leaves of all jobs, each with the value that it wants of an event, in an order in which those that name one event and
+/// want one value of it stand together.
+#[derive(Debug, Drop)]
+pub struct Finder {
+    leaves: Vec<Wanted>,
+}
+
+impl Model for Finder {
+    ghost use Rattle.std.specs.Prelude.{List};
+    ghost use Rattle.up_marks.specs.declared.wanted.Wanted.{Wanted};
+    ghost use Rattle.up_marks.specs.Finding.{AreOrdered};
+
+    ghost Value = { List Wanted };
+
+    ghost view = { λ finder. finder.leaves.items };
+
+    ghost invariant = { λ finder. AreOrdered finder.leaves.items };
+}
+
+fn compare_texts(leaf: &Wanted, event: &str, value: &str) -> Ordering
+    ensures { result ≡ ordering_then (slice_cmp nat_cmp leaf.now.place.event event.now) (slice_cmp nat_cmp leaf.now.value value.now) }
+{
+    match leaf.place.event.as_str().cmp(event) {
+        Ordering::Less => Ordering::Less,
+        Ordering::Equal => leaf.value.as_str().cmp(value),
+        Ordering::Greater => Ordering::Greater,
+    }
+}
+
+fn compare(leaf: &Wanted, event: &str, value: &str, job: usize) -> Ordering
+    ensures { result ≡ finding.compare (key_of leaf.now) (event.now, value.now, job) }
+{
+    match compare_texts(leaf, event, value) {
+        Ordering::Less => Ordering::Less,
+        Ordering::Equal => usize::from(leaf.place.job).cmp(&job),
+        Ordering::Greater => Ordering::Greater,
+    }
+}
+
+fn compare_leaves(leaf: &Wanted, other: &Wanted) -> Ordering
+    ensures { result ≡ finding.compare (key_of leaf.now) (key_of other.now) }
+{
+    let job = usize::from(other.place.job);
+    compare(leaf, other.place.event.as_str(), other.value.as_str(), job)
+}
+
+fn sort_leaves(leaves: &mut Vec<Wanted>)
+    ensures ordered { AreOrdered leaves.new.items }
+    ensures same { IsPermutation leaves.old.items leaves.new.items }
+{
+    leaves.sort_unstable_by(|leaf, other| compare_leaves(leaf, other));
+}
+
+// How many leaves come before those that name an event, want a value of it, and aren't of earlier jobs.
+fn before_len(leaves: &[Wanted], name: &Name, value: &str, job: usize) -> usize
+    requires { AreOrdered leaves.now }
+    ensures before { IsPartitionPoint (λ leaf. is_before (key_of leaf) (name.now, value.now, job) ≡ true)
+        (λ leaf. is_before (key_of leaf) (name.now, value.now, job) ≡ false) leaves.now result }
+    ensures within { result ≤ length leaves.now }
+{
+    leaves.partition_point(|leaf| compare(leaf, name.as_str(), value, job).is_lt())
+}
+
+fn wants(leaf: &Wanted, name: &Name, value: &str) -> bool
+    ensures { result ≡ finding.wants name.now value.now leaf.now }
+{
+    leaf.place.event.is(name) && leaf.value.is(value)
+}
+
+// The job of the first of these leaves that may match an event, as long as they want this value of it.
+#[tactic(auto, using(crate::proofs::Ordered::first_left))]
+fn first_wanting(
+    leaves: &[Wanted],
+    jobs: &[JobFile],
+    event: &Event,
+    value: &str,
+) -> Option<usize>
+    ensures { result ≡ first_wanting (admits jobs.now event.now) event.now.name value.now leaves.now }
+{
+    for leaf in leaves {
+        if !wants(leaf, &event.name, value) {
+            return None;
+        }
+        if admits(jobs, &leaf.place, event) {
+            return Some(usize::from(leaf.place.job));
+        }
+    }
+    None
+}
+
+// The first job from one on with a leaf that wants this value of an event, and may match it.
+fn next_wanting(
+    leaves: &[Wanted],
+    jobs: &[JobFile],
+    event: &Event,
+    value: &str,
+    from: usize,
+) -> Option<usize>
+    requires { AreOrdered leaves.now }
+    ensures { IsLeastFrom (has_wanting (admits jobs.now event.now) event.now.name value.now leaves.now) from result }
+{
+    let (_, later) = leaves.split_at(before_len(leaves, &event.name, value, from));
+    first_wanting(later, jobs, event, value)
+}
+
+// The first job from one on with a leaf that wants nothing or a value that an event has, and may match it.
+fn next_wanted(
+    leaves: &[Wanted],
+    jobs: &[JobFile],
+    event: &Event,
+    from: usize,
+) -> Option<usize>
+    requires { AreOrdered leaves.now }
+    ensures { IsLeastFrom (has_wanted (admits jobs.now event.now) event.now.name event.now.vars leaves.now) from result }
+{
+    let mut next = next_wanting(leaves, jobs, event, "", from);
+    for i in 0..event.vars.len() {
+        let (_, value) = event.vars.at(i);
+        next = lesser_of(next, next_wanting(leaves, jobs, event, value, from));
+    }
+    next
+}
+
+/// The lesser of two, if there are two.
+pub fn lesser_of(one: Option<usize>, other: Option<usize>) -> Option<usize>
+    ensures { result ≡ lesser one other }
+{
+    match (one, other) {
+        (None, other) => other,
+        (Some(one), None) => Some(one),
+        (Some(one), Some(other)) => Some(if other < one { other } else { one }),
+    }
+}
+
+impl Finder {
+    /// The finder of jobs. It is refused to more than a table may have, as if memory ran out.
+    pub fn of(alloc: Global, files: &[JobFile]) -> Result<Self, AllocError>
+        ensures { IfOk result (λ finder. Finds finder files.now) }
+    {
+        if files.len() > MAX_JOBS {
+            return Err(AllocError);
+        }
+        let places = places_of_files(alloc, files)?;
+        let mut leaves = wanting_each(alloc, files, places.as_slice())?;
+        sort_leaves(&mut leaves);
+        Ok(Finder { leaves })
+    }
+
+    /// The first job from one on with a leaf that may match an event, of the jobs that this is the finder of. It looks at no leaf
+    /// that wants a value that no variable of the event has. Takes no memory.
+    pub fn next_job(&self, jobs: &[JobFile], event: &Event, from: usize) -> Option<usize>
+        ensures next { Finds self.now jobs.now → IsNextJob (admits jobs.now event.now) from
+            (named event.now.name (places_of 0 jobs.now)) result }
+        ensures later { IfSome result (λ job. from ≤ job) }
+    {
+        next_wanted(self.leaves.as_slice(), jobs, event, from)
+    }
+}
