@@ -2,6 +2,8 @@
 #![tactic(auto)]
 
 #[cfg(test)]
+mod finding;
+#[cfg(test)]
 mod instances;
 #[cfg(test)]
 mod many;

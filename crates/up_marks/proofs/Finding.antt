@@ -1,9 +1,8 @@
 -- A leaf that an event isn't ruled out by wants nothing, or the value of one of its variables.
-use Rattle.std.proofs.Common.{◌≡◌, ◌≤◌, ◌<◌, ◌+◌, ◌==◌, ℕ, zero, suc, Bool, true, false, not, ◌&&◌, ◌||◌, nat_lt, List, [], ◌∷◌, map, take, length, bytes_eq, slice_get, cond, Option, None, Some, IfSome, option_map, if◌then◌else◌, refl, sym, ◌∙◌, ap, arith, add-one, ltb-true, ltb-false}
+use Rattle.std.proofs.Common.{◌≡◌, ◌≤◌, ◌+◌, ◌==◌, ℕ, zero, suc, Bool, true, false, ◌&&◌, ◌||◌, nat_lt, List, [], ◌∷◌, map, take, bytes_eq, slice_get, cond, Option, None, Some, IfSome, if◌then◌else◌, refl, sym, ◌∙◌, ap, arith, add-one, ltb-true, ltb-false}
 use Rattle.std.specs.List.{list_any}
 use Rattle.std.proofs.lemmas.Bool.{and_parts, not-true}
 use Rattle.std.proofs.lemmas.List.Sorted.{list_any-IsPermutation}
-use Rattle.std.proofs.lemmas.Slice.Eq.{bytes_eq-Decides}
 use Rattle.up_conf.specs.declared.job.JobDef.{JobDef}
 use Rattle.up_expr.specs.declared.expr.Leaf.{Leaf}
 use Rattle.up_expr.specs.declared.expr.Test.{Test}
@@ -162,7 +161,7 @@ wanted-all jobs event leaves finds job =
     let test = admits jobs event in
     let all = map (wanting jobs) (places_of 0 jobs) in
     let moved : (value : Bytes) → has_wanting test event.name value leaves job ≡ has_wanting test event.name value all job =
-        λ value. sym (list_any-IsPermutation (λ (leaf : Wanted). wants event.name value leaf && ((leaf.place.job == job) && test leaf.place)) all leaves finds) in
+    λ value. sym (list_any-IsPermutation (λ (leaf : Wanted). wants event.name value leaf && ((leaf.place.job == job) && test leaf.place)) all leaves finds) in
     ap (λ (b : Bool). b || has_wanting test event.name [] leaves job)
     (any-same (λ (pair : Bytes × Bytes). has_wanting test event.name pair.1 leaves job) (λ (pair : Bytes × Bytes). has_wanting test event.name pair.1 all job) (λ pair. moved pair.1) event.vars)
     ∙ ap (λ (b : Bool). list_any (λ (pair : Bytes × Bytes). has_wanting test event.name pair.1 all job) event.vars || b) (moved [])
@@ -243,3 +242,25 @@ least-more admits_ name vars leaves from i key value one other there first secon
         or-last (list_any p (take i vars)) (has_wanting admits_ name value leaves n) plain
         ∙ sym (ap (λ (b : Bool). b || plain) (any-more p vars i (key, value) there))
         ∙ ap (λ k. list_any p (take k vars) || plain) (sym (add-one i))
+
+-- a job that no other can come before is the first, whatever the other variables are
+any-taken : (p : Bytes × Bytes → Bool) (vars : Bindings) (i : ℕ) → list_any p (take i vars) ≡ true → list_any p vars ≡ true
+any-taken p vars zero some = absurd (cc)
+any-taken p [] (suc i) some = absurd (cc)
+any-taken p (x ∷ vars) (suc i) some = by_first (p x) some (any-taken p vars i)
+  where
+    by_first : (b : Bool) → (b || list_any p (take i vars)) ≡ true → (list_any p (take i vars) ≡ true → list_any p vars ≡ true) → (b || list_any p vars) ≡ true
+    by_first true some ih = refl
+    by_first false some ih = ih some
+
+pub least-first : (admits_ : Place → Bool) (name : Bytes) (vars : Bindings) (leaves : List Wanted) (from i : ℕ)
+    → IsLeastFrom (has_wanted admits_ name (take i vars) leaves) from (Some from) → IsLeastFrom (has_wanted admits_ name vars leaves) from (Some from)
+least-first admits_ name vars leaves from i is =
+    (is.0, (λ n after before. absurd (omega (arith, after, before))), by_some (list_any p (take i vars)) refl is.2)
+  where
+    p : Bytes × Bytes → Bool
+    p pair = has_wanting admits_ name pair.1 leaves from
+
+    by_some : (b : Bool) → list_any p (take i vars) ≡ b → (b || has_wanting admits_ name [] leaves from) ≡ true → (list_any p vars || has_wanting admits_ name [] leaves from) ≡ true
+    by_some true some met = ap (λ (b : Bool). b || has_wanting admits_ name [] leaves from) (any-taken p vars i some)
+    by_some false none met = ap (λ (b : Bool). list_any p vars || b) met ∙ or-true (list_any p vars)

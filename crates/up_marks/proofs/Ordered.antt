@@ -1,5 +1,5 @@
 -- Leaves in order of their events, the values that they want, and their jobs.
-use Rattle.std.proofs.Common.{◌≡◌, ◌≤◌, ◌<◌, ◌==◌, ℕ, zero, suc, Bool, true, false, ◌&&◌, ◌||◌, nat_lt, List, [], ◌∷◌, length, get_or, drop, bytes_eq, Option, None, Some, if◌then◌else◌, refl, sym, ◌∙◌, ap, subst, arith, eq-eqb, ne_eqb, eqb-true, ltb-true, ltb-false, Ordering, Less, Equal, Greater, is_lt, is_eq, nat_cmp, Bor}
+use Rattle.std.proofs.Common.{◌≡◌, ◌≤◌, ◌<◌, ◌==◌, ℕ, zero, suc, Bool, true, false, ◌&&◌, ◌||◌, nat_lt, List, [], ◌∷◌, length, get_or, drop, bytes_eq, Option, None, Some, if◌then◌else◌, refl, sym, ◌∙◌, ap, subst, arith, eq-eqb, ne_eqb, ltb-true, ltb-false, Ordering, Less, Equal, Greater, is_lt, is_eq, nat_cmp, Bor}
 use Rattle.std.specs.Cmp.{IsStrictWeakOrder, IsTotalOrder}
 use Rattle.std.specs.Cmp.Lexicographic.{slice_cmp}
 use Rattle.std.specs.Fn.{Called}
@@ -26,7 +26,7 @@ total = then_total texts_total (on_total (λ (key : Key). key.2) nat_cmp_total)
 order : IsStrictWeakOrder (λ (key other : Key). is_before key other)
 order = ranks_by total (λ (key : Key). key)
 
-leaf_order : IsStrictWeakOrder (λ (leaf other : Wanted). is_before (key_of leaf) (key_of other))
+pub leaf_order : IsStrictWeakOrder (λ (leaf other : Wanted). is_before (key_of leaf) (key_of other))
 leaf_order = ranks_by total key_of
 
 -- what a sort leaves, if its closure compares the leaves
@@ -38,10 +38,10 @@ ordered-from_sort g f xs answers sorted =
     sorted (λ leaf other. is_before (key_of leaf) (key_of other)) leaf_order always
 
 -- none comes before an earlier one
-abbrev IsFar : List Wanted → Type 0
+abbrev pub IsFar : List Wanted → Type 0
 IsFar xs = (i j : ℕ) (d : Wanted) → i ≤ j → j < length xs → is_before (key_of (get_or xs j d)) (key_of (get_or xs i d)) ≡ false
 
-far : (xs : List Wanted) → AreOrdered xs → IsFar xs
+pub far : (xs : List Wanted) → AreOrdered xs → IsFar xs
 far xs up = sorted_far (λ (leaf other : Wanted). is_before (key_of leaf) (key_of other)) leaf_order xs up
 
 -- so those before a key come first
@@ -134,10 +134,10 @@ first-least admits name value from (leaf ∷ xs) up late =
     none : wants name value leaf ≡ false → (job : ℕ) → has_wanting admits name value (leaf ∷ xs) job ≡ false
     none isnt job = none-at (λ its. wants name value its && ((its.place.job == job) && admits its.place)) (leaf ∷ xs)
         (λ j d within. other-job admits name value (get_or (leaf ∷ xs) j d) job (λ is same.
-            let other = get_or (leaf ∷ xs) j d in
-            let above : is_before (name, value, other.place.job) (key_of leaf) ≡ false = subst (λ (key : Key). is_before key (key_of leaf) ≡ false) (key-wanted name value other is) (up 0 j d (omega arith) within) in
-            let clash : true ≡ false = sym (wants-between name value other.place.job from leaf above (late 0 leaf (omega arith))) ∙ isnt in
-            absurd (cc)))
+        let other = get_or (leaf ∷ xs) j d in
+        let above : is_before (name, value, other.place.job) (key_of leaf) ≡ false = subst (λ (key : Key). is_before key (key_of leaf) ≡ false) (key-wanted name value other is) (up 0 j d (omega arith) within) in
+        let clash : true ≡ false = sym (wants-between name value other.place.job from leaf above (late 0 leaf (omega arith))) ∙ isnt in
+        absurd (cc)))
 
     mine : wants name value leaf ≡ true → nat_lt leaf.place.job from ≡ false
     mine is = sym (before-same name value leaf.place.job from) ∙ subst (λ (key : Key). is_before key (name, value, from) ≡ false) (key-wanted name value leaf is) (late 0 leaf (omega arith))
@@ -145,12 +145,12 @@ first-least admits name value from (leaf ∷ xs) up late =
     earlier : wants name value leaf ≡ true → (job : ℕ) → job < leaf.place.job → has_wanting admits name value (leaf ∷ xs) job ≡ false
     earlier is job before = none-at (λ its. wants name value its && ((its.place.job == job) && admits its.place)) (leaf ∷ xs)
         (λ j d within. other-job admits name value (get_or (leaf ∷ xs) j d) job (λ its same.
-            let other = get_or (leaf ∷ xs) j d in
-            let above : is_before (name, value, other.place.job) (name, value, leaf.place.job) ≡ false =
-                subst (λ (key : Key). is_before (name, value, other.place.job) key ≡ false) (key-wanted name value leaf is)
-                (subst (λ (key : Key). is_before key (key_of leaf) ≡ false) (key-wanted name value other its) (up 0 j d (omega arith) within)) in
-            let upto : leaf.place.job ≤ other.place.job = ltb-false other.place.job leaf.place.job (sym (before-same name value other.place.job leaf.place.job) ∙ above) in
-            omega (arith, upto, same, before)))
+        let other = get_or (leaf ∷ xs) j d in
+        let above : is_before (name, value, other.place.job) (name, value, leaf.place.job) ≡ false =
+        subst (λ (key : Key). is_before (name, value, other.place.job) key ≡ false) (key-wanted name value leaf is)
+        (subst (λ (key : Key). is_before key (key_of leaf) ≡ false) (key-wanted name value other its) (up 0 j d (omega arith) within)) in
+        let upto : leaf.place.job ≤ other.place.job = ltb-false other.place.job leaf.place.job (sym (before-same name value other.place.job leaf.place.job) ∙ above) in
+        omega (arith, upto, same, before)))
 
     here : wants name value leaf ≡ true → admits leaf.place ≡ true → has_wanting admits name value (leaf ∷ xs) leaf.place.job ≡ true
     here is fits = rw (is, eq-eqb leaf.place.job leaf.place.job refl, fits) refl
@@ -183,8 +183,8 @@ past admits name value from (leaf ∷ xs) (suc i) point within job after =
     let rest = past admits name value from xs i (λ k d low high. point.0 (suc k) d (omega arith) (omega arith), λ k d low high. point.1 (suc k) d (omega arith) (omega arith)) (omega (arith, within)) job after in
     let early : is_before (key_of leaf) (name, value, from) ≡ true = point.0 0 leaf (omega arith) (omega arith) in
     let apart : wants name value leaf ≡ true → leaf.place.job ≡ job → ⊥ = λ is same.
-        let less : leaf.place.job < from = ltb-true leaf.place.job from (sym (before-same name value leaf.place.job from) ∙ subst (λ (key : Key). is_before key (name, value, from) ≡ true) (key-wanted name value leaf is) early) in
-        omega (arith, less, same, after) in
+    let less : leaf.place.job < from = ltb-true leaf.place.job from (sym (before-same name value leaf.place.job from) ∙ subst (λ (key : Key). is_before key (name, value, from) ≡ true) (key-wanted name value leaf is) early) in
+    omega (arith, less, same, after) in
     rest ∙ sym (ap (λ (b : Bool). b || has_wanting admits name value xs job) (other-job admits name value leaf job apart))
 
 -- so the first that is admitted, from the key on, is of the least job

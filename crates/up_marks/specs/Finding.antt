@@ -1,5 +1,5 @@
 -- Which value a leaf wants of an event, and which job is the first with a leaf that may match one.
-use Rattle.std.specs.Prelude.{◌≡◌, ◌≤◌, ◌<◌, ◌==◌, ℕ, Bool, true, false, ◌&&◌, ◌||◌, nat_lt, List, [], ◌∷◌, map, Option, None, Some, if◌then◌else◌}
+use Rattle.std.specs.Prelude.{◌≡◌, ◌≤◌, ◌<◌, ◌==◌, ℕ, Bool, true, false, ◌&&◌, ◌||◌, nat_lt, List, [], ◌∷◌, filter, map, Option, None, Some, if◌then◌else◌}
 use Rattle.std.specs.Cmp.Lexicographic.{slice_cmp}
 use Rattle.std.specs.List.{list_any}
 use Rattle.std.specs.List.Sorted.{IsPermutation, IsSortedBy}
@@ -84,6 +84,10 @@ AreOrdered leaves = IsSortedBy (λ leaf other. is_before (key_of leaf) (key_of o
 -- these are the leaves of jobs, each with the value that it wants
 abbrev pub Finds : List Wanted → List JobDef → Type 0
 Finds leaves jobs = IsPermutation (map (wanting jobs) (places_of 0 jobs)) leaves
+
+-- those that name an event
+abbrev pub of_event : (name : Bytes) → List Wanted → List Wanted
+of_event name leaves = filter (λ leaf. bytes_eq leaf.place.event name) leaves
 
 -- whether a leaf names an event and wants this value of it
 abbrev pub wants : (name value : Bytes) → Wanted → Bool

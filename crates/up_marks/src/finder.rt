@@ -1,8 +1,9 @@
 //! From an event and its values to the jobs that it may concern.
-ghost use Rattle.std.specs.Prelude.{◌≡◌, ◌≤◌, true, false, IfOk, IfSome, length};
+ghost use Rattle.std.specs.Prelude.{◌≡◌, ◌≤◌, true, false, not, IfOk, IfSome, IsTrue, Some, length};
 ghost use Rattle.std.specs.Cmp.Lexicographic.{slice_cmp};
 ghost use Rattle.std.specs.List.Sorted.{IsPartitionPoint, IsPermutation};
 ghost use Rattle.std.specs.Ordering.{nat_cmp, ordering_then};
+ghost use Rattle.up_conf.specs.Order.{is_below};
 ghost use Rattle.up_image.specs.Index.{named, places_of};
 ghost use Rattle.up_marks.specs.Finding as finding;
 ghost use Rattle.up_marks.specs.Finding.{AreOrdered, Finds, IsLeastFrom, IsNextJob, first_wanting, has_wanted, has_wanting, is_before, key_of, lesser};
@@ -70,6 +71,36 @@ fn sort_leaves(leaves: &mut Vec<Wanted>)
     leaves.sort_unstable_by(|leaf, other| compare_leaves(leaf, other));
 }
 
+// How many leaves name events that are below one.
+fn below_len(leaves: &[Wanted], name: &Name) -> usize
+    requires { AreOrdered leaves.now }
+    ensures below { IsPartitionPoint (λ leaf. is_below leaf.place.event name.now ≡ true)
+        (λ leaf. is_below leaf.place.event name.now ≡ false) leaves.now result }
+    ensures within { result ≤ length leaves.now }
+{
+    leaves.partition_point(|leaf| leaf.place.event.as_str().cmp(name.as_str()).is_lt())
+}
+
+// How many name events that aren't above one.
+fn upto_len(leaves: &[Wanted], name: &Name) -> usize
+    requires { AreOrdered leaves.now }
+    ensures upto { IsPartitionPoint (λ leaf. not (is_below name.now leaf.place.event) ≡ true)
+        (λ leaf. not (is_below name.now leaf.place.event) ≡ false) leaves.now result }
+    ensures within { result ≤ length leaves.now }
+{
+    leaves.partition_point(|leaf| !name.as_str().cmp(leaf.place.event.as_str()).is_lt())
+}
+
+// Those of ordered leaves that name an event.
+fn of_event<'a>(leaves: &'a [Wanted], name: &Name) -> &'a [Wanted]
+    requires { AreOrdered leaves.now }
+    ensures { result.now ≡ finding.of_event name.now leaves.now }
+{
+    let (_, rest) = leaves.split_at(below_len(leaves, name));
+    let (run, _) = rest.split_at(upto_len(rest, name));
+    run
+}
+
 // How many leaves come before those that name an event, want a value of it, and aren't of earlier jobs.
 fn before_len(leaves: &[Wanted], name: &Name, value: &str, job: usize) -> usize
     requires { AreOrdered leaves.now }
@@ -88,12 +119,7 @@ fn wants(leaf: &Wanted, name: &Name, value: &str) -> bool
 
 // The job of the first of these leaves that may match an event, as long as they want this value of it.
 #[tactic(auto, using(crate::proofs::Ordered::first_left))]
-fn first_wanting(
-    leaves: &[Wanted],
-    jobs: &[JobFile],
-    event: &Event,
-    value: &str,
-) -> Option<usize>
+fn first_wanting(leaves: &[Wanted], jobs: &[JobFile], event: &Event, value: &str) -> Option<usize>
     ensures { result ≡ first_wanting (admits jobs.now event.now) event.now.name value.now leaves.now }
 {
     for leaf in leaves {
@@ -122,18 +148,26 @@ fn next_wanting(
     first_wanting(later, jobs, event, value)
 }
 
+// Whether a job was found that no other can come before.
+fn is_first(next: Option<usize>, from: usize) -> bool
+    ensures { IsTrue result → next ≡ Some from }
+{
+    match next {
+        Some(job) => job == from,
+        None => false,
+    }
+}
+
 // The first job from one on with a leaf that wants nothing or a value that an event has, and may match it.
-fn next_wanted(
-    leaves: &[Wanted],
-    jobs: &[JobFile],
-    event: &Event,
-    from: usize,
-) -> Option<usize>
+fn next_wanted(leaves: &[Wanted], jobs: &[JobFile], event: &Event, from: usize) -> Option<usize>
     requires { AreOrdered leaves.now }
     ensures { IsLeastFrom (has_wanted (admits jobs.now event.now) event.now.name event.now.vars leaves.now) from result }
 {
     let mut next = next_wanting(leaves, jobs, event, "", from);
     for i in 0..event.vars.len() {
+        if is_first(next, from) {
+            return next;
+        }
         let (_, value) = event.vars.at(i);
         next = lesser_of(next, next_wanting(leaves, jobs, event, value, from));
     }
@@ -172,6 +206,7 @@ impl Finder {
             (named event.now.name (places_of 0 jobs.now)) result }
         ensures later { IfSome result (λ job. from ≤ job) }
     {
-        next_wanted(self.leaves.as_slice(), jobs, event, from)
+        let leaves = of_event(self.leaves.as_slice(), &event.name);
+        next_wanted(leaves, jobs, event, from)
     }
 }
