@@ -15,13 +15,14 @@ use Rattle.up_expr.proofs.Flattening.{length_nodes}
 use Rattle.up_image.specs.Index.{named}
 use Rattle.up_image.specs.declared.index.Place.{Place}
 use Rattle.up_marks.specs.Agreeing.{naming}
+use Rattle.up_marks.specs.Finding.{IsNextJob, has_job, lesser}
 use Rattle.up_marks.specs.Naming.{naming_in, side_of, bit_of, rank, rank_of, of_expression, Rising}
 use Rattle.up_marks.specs.Ruling.{may_hear, one_fails, may_match, may_match_in, nodes_in, leaf_of, leaf_in, admits_by, admits}
 use Rattle.up_model.specs.Chronicle.{Chronicle}
 use Rattle.up_model.specs.Configuration.{Configuration}
 use Rattle.up_model.specs.Instances.{Instance, instances_of}
 use Rattle.up_model.specs.declared.event.Event.{Event}
-use Rattle.up_book.specs.Hearers.{AreDeaf, IsDeaf, IsFound, AreFound, hears, one_hears, one_stops, has_stop, has_place, lesser, first_from, has_job, IsNextJob, IsNextHearer, HasIndex}
+use Rattle.up_book.specs.Hearers.{AreDeaf, IsDeaf, IsFound, AreFound, hears, one_hears, one_stops, has_stop, has_place, first_from, IsNextHearer, HasIndex}
 use Rattle.up_book.specs.Keeps.{KeepsJobs}
 use Rattle.up_book.specs.Keys.{job_at}
 use Rattle.up_book.proofs.Keyed.{job-there}

@@ -1,5 +1,5 @@
 -- Which jobs hear of an event.
-use Rattle.std.specs.Prelude.{map, ◌≡◌, ◌<◌, ◌≤◌, ◌==◌, nat_le, ℕ, Bool, true, false, ◌&&◌, ◌||◌, ◌⊎◌, nat_lt, List, [], ◌∷◌, Option, None, Some, if◌then◌else◌}
+use Rattle.std.specs.Prelude.{map, ◌≡◌, ◌<◌, ◌≤◌, ◌==◌, nat_le, ℕ, Bool, true, false, ◌&&◌, ◌||◌, ◌⊎◌, List, [], ◌∷◌, Option, None, Some, if◌then◌else◌}
 use Rattle.std.specs.List.{AllByRecursion, list_any}
 use Rattle.up_conf.specs.declared.job.JobDef.{JobDef}
 use Rattle.up_image.specs.declared.index.Place.{Place}
@@ -46,23 +46,6 @@ abbrev pub first_from : (admits : Place → Bool) → (from : ℕ) → List Plac
 first_from admits from [] = None
 first_from admits from (place ∷ places) =
     if nat_le from place.job && admits place then Some place.job else first_from admits from places
-
--- whether a test admits one of these places that is of a job
-abbrev pub has_job : (admits : Place → Bool) → ℕ → List Place → Bool
-has_job admits job places = list_any (λ place. (place.job == job) && admits place) places
-
--- the least job, not below another, of those of these places that a test admits
-abbrev pub IsNextJob : (admits : Place → Bool) → (from : ℕ) → List Place → Option ℕ → Type 0
-IsNextJob admits from places None = (job : ℕ) → from ≤ job → has_job admits job places ≡ false
-IsNextJob admits from places (Some next) = (from ≤ next)
-    × ((job : ℕ) → from ≤ job → job < next → has_job admits job places ≡ false)
-    × (has_job admits next places ≡ true)
-
--- the lesser of two, if there are two
-abbrev pub lesser : Option ℕ → Option ℕ → Option ℕ
-lesser None other = other
-lesser (Some one) None = Some one
-lesser (Some one) (Some other) = if nat_lt other one then Some other else Some one
 
 -- whether an event may match the `stop on` of one of these instances, as they are kept
 abbrev pub one_stops : Event → List Kept → Bool

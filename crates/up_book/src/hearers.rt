@@ -1,14 +1,14 @@
-//! Which jobs hear of an event.
-ghost use Rattle.std.specs.Prelude.{◌≡◌, ◌≤◌, ◌&&◌, length, nat_le, nat_lt, true, false};
+//! Which jobs have an instance that hears of an event.
+ghost use Rattle.std.specs.Prelude.{◌≡◌, ◌≤◌, length, nat_lt, true, false};
 ghost use Rattle.std.specs.List.Sorted.{IsPartitionPoint};
-ghost use Rattle.up_book.specs.Hearers.{IsNextJob, first_from, has_stop, lesser, one_stops};
+ghost use Rattle.up_book.specs.Hearers.{first_from, has_stop, one_stops};
 ghost use Rattle.up_image.specs.Index.{named};
+ghost use Rattle.up_marks.specs.Finding.{IsNextJob};
 ghost use Rattle.up_marks.specs.Naming.{Rising};
-ghost use Rattle.up_marks.specs.Ruling.{admits};
 
-use up_image::{JobFile, Place};
+use up_image::Place;
 use up_job::{Instance, Instances};
-use up_marks::{Index, admits, may_stop};
+use up_marks::{Index, may_stop};
 use up_model::Event;
 
 // How many of these places are of earlier jobs.
@@ -19,42 +19,6 @@ fn earlier_len(places: &[Place], job: usize) -> usize
     ensures within { result ≤ length places.now }
 {
     places.partition_point(|place| usize::from(place.job) < job)
-}
-
-// Whether a place is of a job from one on, and its leaf may match an event.
-fn is_next(jobs: &[JobFile], place: &Place, event: &Event, from: usize) -> bool
-    ensures { result ≡ (nat_le from place.now.job && admits jobs.now event.now place.now) }
-{
-    from <= usize::from(place.job) && admits(jobs, place, event)
-}
-
-// The job of the first of these places for which that is so.
-#[tactic(auto, using(crate::proofs::NextHearers::first_left))]
-fn first_job(jobs: &[JobFile], places: &[Place], event: &Event, from: usize) -> Option<usize>
-    ensures { result ≡ first_from (admits jobs.now event.now) from places.now }
-{
-    for place in places {
-        if is_next(jobs, place, event, from) {
-            return Some(usize::from(place.job));
-        }
-    }
-    None
-}
-
-// The first job from one on that has one of these places with a leaf that may match an event.
-fn next_job_in(jobs: &[JobFile], places: &[Place], event: &Event, from: usize) -> Option<usize>
-    requires { Rising 0 places.now }
-    ensures { IsNextJob (admits jobs.now event.now) from places.now result }
-{
-    let (_, later) = places.split_at(earlier_len(places, from));
-    first_job(jobs, later, event, from)
-}
-
-/// The first job from one on with a leaf that may match an event. Takes no memory.
-pub fn next_job(index: &Index, jobs: &[JobFile], event: &Event, from: usize) -> Option<usize>
-    ensures { IsNextJob (admits jobs.now event.now) from (named event.now.name index.now) result }
-{
-    next_job_in(jobs, index.places(&event.name), event, from)
 }
 
 // Whether an event may match the `stop on` of one of these instances, each by its own file.
@@ -108,15 +72,4 @@ pub fn next_other(
     ensures { IsNextJob (has_stop instances.now event.now) from (named event.now.name others.now) result }
 {
     next_other_in(instances, others.places(&event.name), event, from)
-}
-
-/// The lesser of two, if there are two.
-pub fn lesser_of(one: Option<usize>, other: Option<usize>) -> Option<usize>
-    ensures { result ≡ lesser one other }
-{
-    match (one, other) {
-        (None, other) => other,
-        (Some(one), None) => Some(one),
-        (Some(one), Some(other)) => Some(if other < one { other } else { one }),
-    }
 }

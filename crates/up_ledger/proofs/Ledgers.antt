@@ -46,7 +46,7 @@ use Rattle.up_model.specs.declared.event_id.EventId.{EventId}
 use Rattle.up_model.specs.Queue.{Live}
 use Rattle.up_model.proofs.ReplyLaws.{releasing-all}
 use Rattle.up_model.proofs.Sparing.{same-append}
-use Rattle.up_ledger.specs.Ledgers.{IsStepIn, Stands}
+use Rattle.up_ledger.specs.Ledgers.{AreLeaves, IsStepIn, Stands}
 use Rattle.up_ledger.specs.Replying.{replies_to}
 use Rattle.up_ledger.specs.Requesting.{OnMeans, IsGone, same_key, on_left, moved_on, after_made, after_left}
 use Rattle.up_book.specs.Sending.{listed, order_by, signal_by, status_by, IsOrder, IsSignal}
@@ -74,7 +74,7 @@ use Rattle.up_ledger.proofs.StepFrames.{Spares, IsUnasked, asks-same, step-silen
 same-job : {a b : JobDef} → Some a ≡ Some b → a ≡ b
 same-job e = cc
 
-pub stood : (ledger : Ledger) (mode : Mode) (config : Configuration) (c : Chronicle) → Forgets ledger.past config c → HasIndex ledger.index config.jobs → IsStepIn mode ledger.step config c → AreFound ledger.others config c
+pub stood : (ledger : Ledger) (mode : Mode) (config : Configuration) (c : Chronicle) → Forgets ledger.past config c → AreLeaves ledger.index config.jobs → IsStepIn mode ledger.step config c → AreFound ledger.others config c
     → Stands ledger mode config c
 stood ledger mode config c f index step found = record { past = f; index = index; step = step; found = found }
 
@@ -139,7 +139,7 @@ silent old past config c e s f still plain spares = stood (record old { past = p
 pub more : (old new : Ledger) (config : Configuration) (c : Chronicle) (e : Entry) (outs : List Output) → Stands old Stepping config c → Forgets new.past config (e ∷ c) → new.index ≡ old.index → new.others ≡ old.others → IsUnasked e → IsPlain e → Spares config c e
     → outputs_of (e ∷ c) ≡ outputs_of c ++ outs → new.step.outputs.items ≡ old.step.outputs.items ++ outs → new.step.asked ≡ old.step.asked → new.step.on ≡ old.step.on → Stands new Stepping config (e ∷ c)
 more old new config c e outs s f index others unasked plain spares out outputs asked on =
-    stood new Stepping config (e ∷ c) f (subst (λ its. HasIndex its config.jobs) (sym index) s.index)
+    stood new Stepping config (e ∷ c) f (subst (λ its. AreLeaves its config.jobs) (sym index) s.index)
     (asks-same (old.step.outputs.items ++ outs) new.step.outputs.items old.step.asked new.step.asked old.step.on new.step.on config (e ∷ c) outputs asked on
     (step-more old.step.outputs.items outs old.step.asked old.step.on config c e unasked plain spares out s.step))
     (subst (λ its. AreFound its config (e ∷ c)) (sym others) (found-same old.others config c (e ∷ c) spares.instances s.found))

@@ -1,10 +1,11 @@
 -- What is kept of a table before anything has happened.
 use Rattle.std.proofs.Common.{◌≡◌, ℕ, zero, suc, ◌+◌, ◌<◌, Bool, true, false, List, [], ◌∷◌, ◌++◌, length, map, take, get_or, Option, Some, slice_index_or, refl, sym, ◌∙◌, ap, subst, arith}
 use Rattle.up_conf.specs.declared.job.JobDef.{JobDef}
-use Rattle.up_image.specs.Index.{named}
+use Rattle.up_image.specs.Index.{named, places_of}
 use Rattle.up_image.specs.declared.index.Place.{Place}
 use Rattle.up_job.specs.Lists.{nth}
 use Rattle.up_marks.specs.Naming.{of_expression, naming_in, side_of}
+use Rattle.up_marks.proofs.NameLemmas.{places-leaves}
 use Rattle.up_book.specs.Hearers.{HasIndex}
 use Rattle.up_marks.specs.Triggers.{Remembers}
 use Rattle.up_marks.specs.declared.mark.Mark.{Mark}
@@ -48,3 +49,6 @@ indexed jobs index leaves = record {
   stops = λ n job there name. leaves name n false job (there-at n jobs job there).0 ∙ ap (λ (j : JobDef). naming_in (side_of false j) name) (there-at n jobs job there).1;
   starts = λ n job there name. leaves name n true job (there-at n jobs job there).0 ∙ ap (λ (j : JobDef). naming_in (side_of true j) name) (there-at n jobs job there).1;
 }
+
+pub indexed-places : (jobs : List JobDef) → HasIndex (places_of 0 jobs) jobs
+indexed-places jobs = indexed jobs (places_of 0 jobs) (λ name k start job below. places-leaves jobs name k start job below)

@@ -1,8 +1,7 @@
 //! The book of an engine: what is kept of the past, and of the step that isn't over.
 ghost use Rattle.std.specs.Prelude.{◌≡◌, ◌++◌, ◌∷◌, ℕ, [], None, Some, map, IsOk, IfOk, OnOk};
 ghost use Rattle.up_book.specs.Keys.{Resting, Stepping, name_of};
-ghost use Rattle.up_ledger.specs.Ledgers.{Stands};
-ghost use Rattle.up_book.specs.Hearers.{HasIndex};
+ghost use Rattle.up_ledger.specs.Ledgers.{AreLeaves, Stands};
 ghost use Rattle.up_ledger.specs.Requesting.{OnMeans};
 ghost use Rattle.up_book.specs.Sending.{IsOrder, IsSignal};
 ghost use Rattle.up_book.specs.Views.{kept_at};
@@ -22,33 +21,33 @@ use crate::past::Past;
 use crate::replies::{no_text, reply, reply_asked, reply_finished, reply_held};
 use crate::step::{ActedOn, Step, push_emitted, put};
 use std::alloc::{AllocError, Global};
-use up_book::{Book, Holders, lesser_of, next_job, next_other, order_of, signal_of};
+use up_book::{Book, Holders, next_other, order_of, signal_of};
 use up_conf::JobDef;
 use up_event::TurnKind;
 use up_image::JobFile;
 use up_job::{InstanceKey, Instances};
-use up_marks::Index;
+use up_marks::{Index, Leaves, lesser_of};
 use up_model::{Answer, Event, EventId, Failure, Goal, Input, Output, Process, State};
 use up_text::{Env, Items, Text};
 
 /// The signal that no process can pass over.
 const KILL: u8 = 9;
 
-/// What is kept of the past, an index of the expressions, and what the step that isn't over has asked for.
+/// What is kept of the past, where the leaves of the expressions are, and what the step that isn't over has asked for.
 #[derive(Drop)]
 pub struct Ledger {
     pub(crate) alloc: Global,
     pub past: Past,
-    pub index: Index,
+    pub index: Leaves,
     // The leaves of the `stop on` of the instances that a load found, each as one of its job.
     pub others: Index,
     pub step: Step,
 }
 
-fn index_of(alloc: Global, files: &[JobFile]) -> Result<Index, AllocError>
-    ensures { IfOk result (λ index. HasIndex index files.now) }
+fn index_of(alloc: Global, files: &[JobFile]) -> Result<Leaves, AllocError>
+    ensures { IfOk result (λ index. AreLeaves index files.now) }
 {
-    let index = Index::of(alloc, files)?;
+    let index = Leaves::of(alloc, files)?;
     Ok(index)
 }
 
@@ -420,7 +419,7 @@ impl Book for Ledger {
     fn next_hearer(&self, jobs: &[JobFile], event: EventId, from: usize) -> Option<usize> {
         match self.past.event_at(event) {
             Some(event) => lesser_of(
-                next_job(&self.index, jobs, event, from),
+                self.index.by_value.next_job(jobs, event, from),
                 next_other(&self.others, &self.past.instances, event, from),
             ),
             None => None,
@@ -450,7 +449,7 @@ impl Book for Ledger {
     ) -> Result<bool, AllocError> {
         let holds = self
             .past
-            .offer_start(self.alloc, &self.index, index, job, env, event)?;
+            .offer_start(self.alloc, &self.index.by_event, index, job, env, event)?;
         Ok(holds)
     }
 

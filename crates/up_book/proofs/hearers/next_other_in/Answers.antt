@@ -1,6 +1,7 @@
 use Rattle.std.proofs.Common.{◌∙◌, sym, ap, subst}
+use Rattle.up_marks.specs.Finding.{IsNextJob}
 use Rattle.up_marks.specs.Naming.{Rising}
-use Rattle.up_book.specs.Hearers.{IsNextJob, first_from, has_stop}
+use Rattle.up_book.specs.Hearers.{first_from, has_stop}
 use Rattle.up_book.proofs.NextHearers.{first-past, next-job}
 use Rattle.up_book.proofs.Others.{rising-from}
 use Rattle.up_book.proofs.hearers.next_other_in.Goals as goal

@@ -10,12 +10,12 @@ pub returns-clause-after : goal.returns-clause-after
 returns-clause-after c config c' e s there env event =
     let job = job-there config c.args.index c.args.job.now there in
     let x = Offered (StartOn c.args.job.now.name) e in
-    silent c.args.self.now _ config c' x s (c.in_ok-holds.ensures.after config c' e s.past job env (s.index.starts c.args.index c.args.job.now job) event) tt tt (calm config c' x (λ job. refl) (λ j. refl) (λ j. refl))
+    silent c.args.self.now _ config c' x s (c.in_ok-holds.ensures.after config c' e s.past job env (s.index.by_event.starts c.args.index c.args.job.now job) event) tt tt (calm config c' x (λ job. refl) (λ j. refl) (λ j. refl))
 
 pub returns-clause-holds : goal.returns-clause-holds
 returns-clause-holds c config c' e s there env event =
     let job = job-there config c.args.index c.args.job.now there in
-    c.in_ok-holds.ensures.holds config c' e s.past job env (s.index.starts c.args.index c.args.job.now job) event
+    c.in_ok-holds.ensures.holds config c' e s.past job env (s.index.by_event.starts c.args.index c.args.job.now job) event
 
 pub returns-clause-events : goal.returns-clause-events
 returns-clause-events c config c' e k j s there env event other = c.in_ok-holds.ensures.places (queue c') k ∙ other
