@@ -1,5 +1,5 @@
 -- What a step comes to, in a run whose configuration loads exchange.
-use Rattle.std.proofs.Common.{◌≡◌, ◌∙◌, ℕ, Bool, true, false, List, [], ◌∷◌, ◌++◌, None, refl, sym, ap, subst}
+use Rattle.std.proofs.Common.{◌≡◌, ◌∙◌, ℕ, true, false, [], ◌∷◌, ◌++◌, None, refl, sym, ap, subst}
 use Rattle.up_cascade.specs.Settling.{after_in}
 use Rattle.up_cascade.specs.Unfired.{NoneHolds, IsAtRest}
 use Rattle.up_cascade.proofs.LoadLemmas.{not-load}
@@ -7,18 +7,16 @@ use Rattle.up_engine.proofs.Untrue.{rest-in}
 use Rattle.up_cascade.proofs.Unfired.{none-entry, none-loaded}
 use Rattle.up_book.specs.Keeps.{AreDistinct}
 use Rattle.up_book.specs.Keys.{SpeaksOf}
-use Rattle.up_conf.specs.declared.job.JobDef.{JobDef}
 use Rattle.up_model.specs.declared.input.Input.{Input}
 use Rattle.up_model.specs.declared.input.Input.TheVariants as input
 use Rattle.up_model.specs.declared.loaded.Loaded.{Loaded as LoadedValue}
 use Rattle.up_model.specs.declared.loaded.Loaded.TheVariants as loaded
 use Rattle.up_model.specs.Answers.{after}
-use Rattle.up_model.specs.Chronicle.{Chronicle, Given, Loaded, Replied}
+use Rattle.up_model.specs.Chronicle.{Chronicle, Given, Loaded}
 use Rattle.up_model.specs.Configuration.{Configuration}
 use Rattle.up_model.specs.Due.{due, effect}
-use Rattle.up_model.specs.Loads.{in_force, is_load, loading, with_jobs}
-use Rattle.up_model.specs.Work.{work, settle}
-use Rattle.up_model.proofs.LoadLaws.{HaveJobs, after-same, after-unloaded, after-in_force, load-rests}
+use Rattle.up_model.specs.Loads.{in_force, is_load, with_jobs}
+use Rattle.up_model.proofs.LoadLaws.{HaveJobs, after-same, after-unloaded, load-rests}
 use Rattle.up_model.proofs.Settling.{settle_still, after_rests}
 
 -- an input that is no load leaves the configuration in force, and comes to the same in it

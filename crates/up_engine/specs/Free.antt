@@ -15,7 +15,6 @@ use Rattle.up_model.specs.Loads.{in_force}
 use Rattle.up_model.specs.Queue.{Live, queue}
 use Rattle.up_model.specs.Readings.{blocker, event_at}
 use Rattle.up_model.specs.Replies.{waiter}
-use Rattle.up_book.specs.Hearers.{hears}
 use Rattle.up_engine.specs.declared.due.Concern.{Concern}
 use Rattle.up_engine.specs.declared.due.Concern.TheVariants.{Nobody, Instance as Instance', Event as Event', Anybody}
 use Rattle.up_cascade.specs.Unheard.{NoneHears}

@@ -1,5 +1,4 @@
-use Rattle.std.proofs.Common.{◌∙◌, ◌++◌, sym, subst}
-use Rattle.up_book.specs.Keys.{Stepping}
+use Rattle.std.proofs.Common.{◌∙◌, ◌++◌}
 use Rattle.up_engine.proofs.FreeLemmas.{free-outputs}
 use Rattle.up_model.specs.Due.{effect}
 use Rattle.up_engine.proofs.engine.step_book.Goals as goal

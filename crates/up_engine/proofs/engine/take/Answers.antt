@@ -1,14 +1,9 @@
-use Rattle.std.proofs.Common.{◌≡◌, ◌∙◌, ◌∷◌, ◌++◌, sym, subst, ap, refl, true, false}
+use Rattle.std.proofs.Common.{◌≡◌, ◌∙◌, sym, subst, ap, true, false}
 use Rattle.up_book.specs.Keys.{Stepping, Resting}
 use Rattle.up_engine.proofs.Loading.{unloaded-after, unloaded-force, loaded-whole, speaks-load}
-use Rattle.up_cascade.specs.Unfired.{IsAtRest}
 use Rattle.up_cascade.specs.Settling.{after_in}
 use Rattle.up_model.specs.Answers.{after}
-use Rattle.up_model.specs.Chronicle.{Chronicle, Given}
-use Rattle.up_model.specs.Configuration.{Configuration}
-use Rattle.up_model.specs.Due.{due, effect}
 use Rattle.up_model.specs.Loads.{in_force, is_load}
-use Rattle.up_model.specs.declared.input.Input.{Input}
 use Rattle.up_engine.proofs.engine.take.Goals as goal
 
 pub returns-in_ok-load-clause-setup : goal.returns-in_ok-load-clause-setup
