@@ -15,10 +15,6 @@ use Rattle.up_job.specs.declared.instances.JobInstances.{JobInstances}
 use Rattle.up_book.specs.Summaries.{summary, job_summary, blank}
 use Rattle.up_book.specs.Views.{Places, job_view}
 
-abbrev pub is_waiting : State → Bool
-is_waiting state.Waiting = true
-is_waiting other = false
-
 abbrev pub AreOlder : ℕ → List ℕ → Type 0
 AreOlder n places = AllByRecursion (λ place. place < n) places
 

@@ -3,7 +3,8 @@ ghost use Rattle.std.specs.Prelude.{◌≡◌, ◌≤◌, ◌<◌, ℕ, true, fa
 ghost use Rattle.std.specs.Option.{option_copied, option_map_or};
 ghost use Rattle.up_book.specs.declared.holders.Holders.{Holders as HoldersValue};
 ghost use Rattle.up_book.specs.Hearers.{IsNextHearer};
-ghost use Rattle.up_book.specs.Keeps.{AreDistinct, is_waiting};
+ghost use Rattle.up_model.specs.Predicates.{is_waiting};
+ghost use Rattle.up_book.specs.Keeps.{AreDistinct};
 ghost use Rattle.up_book.specs.Keys.{Mode, Resting, Stepping, SpeaksOf, held_as, request_place, job_at, name_at, instance_at, instance_place, given_place, called};
 ghost use Rattle.up_book.specs.Turning.{turn_at};
 ghost use Rattle.up_book.specs.Unblocking.{IsBlockedBy};

@@ -5,7 +5,7 @@ use Rattle.std.proofs.lemmas.Option.{slice_get_read}
 use Rattle.up_conf.specs.declared.job.JobDef.{JobDef}
 use Rattle.up_job.specs.declared.instance_key.InstanceKey.{InstanceKey}
 use Rattle.up_book.specs.Keys.{job_at, name_at, instance_at, instance_place}
-use Rattle.up_book.specs.Keeps.{is_waiting}
+use Rattle.up_model.specs.Predicates.{is_waiting}
 use Rattle.up_cascade.proofs.HolderLemmas.{past-releasing}
 use Rattle.up_model.specs.declared.state.State.{State}
 use Rattle.up_model.specs.declared.state.State.TheVariants as state

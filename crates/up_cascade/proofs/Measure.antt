@@ -16,7 +16,8 @@ use Rattle.up_model.specs.Readings.{goal, state_of, is_blocking, blocker, lives}
 use Rattle.up_model.specs.Work.{moves, moves_at}
 use Rattle.up_model.proofs.Places.{count}
 use Rattle.up_model.proofs.Sparing.{same-append}
-use Rattle.up_model.proofs.MoveLaws.{Leaves, leaves, IsMove, move-goal, enter-moves, enter-state, is_waiting, enter-all_instances}
+use Rattle.up_model.specs.Predicates.{is_waiting}
+use Rattle.up_model.proofs.MoveLaws.{Leaves, leaves, IsMove, move-goal, enter-moves, enter-state, enter-all_instances}
 
 whole-fewer : (b : Bool) → moves Start (if b then Running else Stopping) (is_blocking (if b then Running else Stopping)) < 2
 whole-fewer true = omega arith

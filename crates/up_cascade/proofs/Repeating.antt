@@ -4,7 +4,7 @@ use Rattle.up_conf.specs.declared.job.JobDef.{JobDef}
 use Rattle.up_model.specs.declared.event_id.EventId.{EventId}
 use Rattle.up_job.specs.declared.instance_key.InstanceKey.{InstanceKey}
 use Rattle.up_book.specs.Keys.{instance_at}
-use Rattle.up_book.specs.Keeps.{is_waiting}
+use Rattle.up_model.specs.Predicates.{is_waiting}
 use Rattle.up_cascade.specs.Settling.{settle_one, ListsAfter}
 use Rattle.up_cascade.proofs.Settled.{StandsStill, gone-stays, one-stays}
 use Rattle.up_model.specs.declared.state.State.{State}

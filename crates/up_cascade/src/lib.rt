@@ -13,7 +13,6 @@ mod setup;
 pub use environment::request_start_env;
 pub use events::{event_of, failure_of_event};
 pub use hear::hear_all;
-pub use life::{is_running, is_start};
 pub use offers::{has_room, start_called, stop_of};
 pub use settle::{settle_alone, settle_jobs};
 pub use setup::Setup;

@@ -2,7 +2,6 @@
 ghost use Rattle.std.specs.Prelude.{◌≡◌, ℕ, false, not, ◌&&◌, ◌||◌, ◌∷◌, [], ◌++◌, Option, Some, IfOk, OnOk};
 ghost use Rattle.up_model.specs.declared.event_id.EventId.{EventId as EventIdValue};
 ghost use Rattle.up_book.specs.Keys.{Mode, Stepping, instance_at, instance_place};
-ghost use Rattle.up_book.specs.Keeps.{is_waiting};
 ghost use Rattle.up_cascade.specs.Settling.{settle_one, ListsAfter};
 ghost use Rattle.up_model.specs.declared.state.State.TheVariants as entered;
 ghost use Rattle.up_model.specs.Chronicle.{Chronicle};
@@ -13,11 +12,11 @@ ghost use Rattle.up_model.specs.Life as life;
 ghost use Rattle.up_model.specs.Moves as model;
 ghost use Rattle.up_model.specs.Readings as read;
 ghost use Rattle.up_model.specs.Replies as replies;
-ghost use Rattle.up_model.specs.Predicates.{entries_if};
+ghost use Rattle.up_model.specs.Predicates.{entries_if, is_waiting};
 ghost use Rattle.up_stanza.specs.declared.process.Process.TheVariants as process;
 
 use crate::events::job_event;
-use crate::life::{has_process, is_start, is_waiting};
+use crate::life::has_process;
 use crate::setup::Setup;
 use std::alloc::{AllocError, Global};
 use up_book::Book;
@@ -64,7 +63,7 @@ fn is_changed<B: Book>(book: &B, job: &JobDef, key: InstanceKey) -> bool
     ensures { (mode : Mode) (config : Configuration) (c : Chronicle) (i : ℕ) → B.stands book.now mode config c
         → instance_place config c key ≡ Some i → result ≡ model.is_over job.now i life.ForChange c }
 {
-    !is_start(book.goal(key)) || book.was_restarted(key) || is_main_gone(book, job, key)
+    !book.goal(key).is_start() || book.was_restarted(key) || is_main_gone(book, job, key)
 }
 
 // Whether what an instance waits for in a state has come.
@@ -73,7 +72,7 @@ fn is_over<B: Book>(book: &B, job: &JobDef, key: InstanceKey, from: State) -> bo
         → instance_place config c key ≡ Some i → result ≡ model.is_over job.now i (life.wait_in from) c }
 {
     match from {
-        State::Waiting => is_start(book.goal(key)),
+        State::Waiting => book.goal(key).is_start(),
         State::Starting => !book.is_blocked(key),
         State::PreStart => is_through(book, job, key, Process::PreStart),
         State::Spawned => is_answered(book, job, key, Process::Main),
@@ -329,7 +328,7 @@ fn move_on<B: Book>(
 {
     let from = book.state_of(key);
     let to = next_of(book, job, key);
-    if is_waiting(to) {
+    if to.is_waiting() {
         enter_waiting(alloc, book, job, key, from)?;
         return Ok(false);
     }

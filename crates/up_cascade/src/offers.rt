@@ -17,7 +17,6 @@ ghost use Rattle.up_text.specs.Scripts.{is_filled};
 
 use crate::environment::start_env;
 use crate::events::{add_instance, events_env, stop_env};
-use crate::life::is_start;
 use crate::setup::Setup;
 use std::alloc::{AllocError, Global};
 use up_book::{Book, Holders};
@@ -67,7 +66,7 @@ fn stop_by<B: Book>(
         → map (B.event_place book.old c) holders ≡ map Some events → B.event_place book.old c k ≡ Some j
         → B.event_place book.new (model.stop_by i events c ++ c) k ≡ Some j) }
 {
-    if is_start(book.goal(key)) {
+    if book.goal(key).is_start() {
         let environment = stop_env(alloc, book, holders.as_slice())?;
         stop_of(book, key, environment, Holders::Taken(holders))?;
     }
@@ -147,7 +146,7 @@ fn start_old<B: Book>(
         → B.event_place book.old c k ≡ Some j
         → B.event_place book.new (model.start_of job who environment places (Some i) c ++ c) k ≡ Some j) }
 {
-    if !is_start(book.goal(key)) {
+    if !book.goal(key).is_start() {
         book.release(key)?;
         book.aim(key, Goal::Start, environment, holders)?;
     }

@@ -14,7 +14,8 @@ use Rattle.up_chart.specs.declared.moment.Sign.{Sign}
 use Rattle.up_chart.specs.declared.moment.Sign.TheVariants.{Enters, StartedBy, ByClient, Fails, Signal, Comes}
 use Rattle.up_chart.specs.declared.row.Row.{Row}
 use Rattle.up_chart.specs.Arrows.{arrows_in}
-use Rattle.up_chart.specs.Rows.{Named, all_rows, is_up, is_waiting, row_for, rows_after}
+use Rattle.up_model.specs.Predicates.{is_waiting}
+use Rattle.up_chart.specs.Rows.{Named, all_rows, is_up, row_for, rows_after}
 
 -- the state in which an instance was until then, if it was in one for a while
 abbrev pub span_of : (end : ℕ) → Row → List Span

@@ -4,6 +4,7 @@ use Rattle.std.specs.Str.{bytes_eq}
 use Rattle.up_value.specs.Values.{Bytes}
 use Rattle.up_model.specs.declared.state.State.{State}
 use Rattle.up_model.specs.declared.state.State.TheVariants as state
+use Rattle.up_model.specs.Predicates.{is_waiting}
 use Rattle.up_chart.specs.declared.moment.Moment.{Moment}
 use Rattle.up_chart.specs.declared.moment.Sign.{Sign}
 use Rattle.up_chart.specs.declared.moment.Sign.TheVariants.{Enters, StartedBy, ByClient, Fails, Signal, Comes}
@@ -13,10 +14,6 @@ use Rattle.up_chart.specs.declared.row.Row.{Row}
 -- an instance of which nothing was seen yet
 abbrev pub new_row : (place time : ℕ) → Row
 new_row place time = record { place = place; state = state.Waiting; since = time; told = false; asked = false; start_began = None; life_began = None; events_came = None }
-
-abbrev pub is_waiting : State → Bool
-is_waiting state.Waiting = true
-is_waiting other = false
 
 -- main lives, and nobody has asked for its end
 abbrev pub is_up : State → Bool

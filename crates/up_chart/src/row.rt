@@ -1,6 +1,7 @@
 //! What is known of an instance, and what a moment makes of it.
 ghost use Rattle.std.specs.Prelude.{◌≡◌};
-ghost use Rattle.up_chart.specs.Rows.{start_began_after, life_began_after, with_events, came_again, is_up, is_waiting, new_row, next_row};
+ghost use Rattle.up_model.specs.Predicates.{is_waiting};
+ghost use Rattle.up_chart.specs.Rows.{start_began_after, life_began_after, with_events, came_again, is_up, new_row, next_row};
 
 use crate::moment::Sign;
 use up_model::State;
@@ -62,23 +63,6 @@ pub(crate) fn new_row(place: u64, time: u64) -> Row
         start_began: None,
         life_began: None,
         events_came: None,
-    }
-}
-
-pub(crate) fn is_waiting(state: State) -> bool
-    ensures { result ≡ is_waiting state }
-{
-    match state {
-        State::Waiting => true,
-        State::Starting
-        | State::PreStart
-        | State::Spawned
-        | State::PostStart
-        | State::Running
-        | State::PreStop
-        | State::Stopping
-        | State::Killed
-        | State::PostStop => false,
     }
 }
 
@@ -155,8 +139,8 @@ pub(crate) fn next_row(time: u64, row: Row, sign: &Sign) -> Row
             place: row.place,
             state: *state,
             since: time,
-            told: row.told && !is_waiting(*state),
-            asked: row.asked && !is_waiting(*state),
+            told: row.told && !state.is_waiting(),
+            asked: row.asked && !state.is_waiting(),
             start_began: start_began_after(*state, time, row.start_began),
             life_began: life_began_after(*state, time, row.life_began),
             events_came: row.events_came,

@@ -8,7 +8,7 @@ ghost use Rattle.up_chart.specs.declared.moment.Sign.TheVariants.{StartedBy};
 use crate::arrow::push_arrows;
 use crate::label::{Arrow, Mark, Span, Start};
 use crate::moment::{Moment, Sign};
-use crate::row::{Row, came_again, is_up, is_waiting, new_row, next_row};
+use crate::row::{Row, came_again, is_up, new_row, next_row};
 use crate::rows::Rows;
 use crate::times::Times;
 use std::alloc::{AllocError, Global};
@@ -31,7 +31,7 @@ pub struct Seen {
 pub(crate) fn push_span(spans: &mut Vec<Span>, end: u64, row: &Row) -> Result<(), AllocError>
     ensures { OnOk result (spans.new.items ≡ spans.old.items ++ span_of end row.now) }
 {
-    if is_waiting(row.state) || end <= row.since {
+    if row.state.is_waiting() || end <= row.since {
         return Ok(());
     }
     spans.push(Span {

@@ -18,7 +18,7 @@ use Rattle.up_stanza.specs.declared.exit.Exit.TheVariants as exit
 use Rattle.up_stanza.specs.declared.limit.Limit.{Limit}
 use Rattle.up_stanza.specs.declared.setting.Setting.{Setting}
 use Rattle.up_conf.specs.declared.job.JobDef.{JobDef}
-use Rattle.up_conf.specs.Jobs.{same_exit}
+use Rattle.up_stanza.specs.Exits.{same_exit}
 use Rattle.up_compare.specs.declared.part.Part.{Part}
 use Rattle.up_compare.specs.declared.part.Part.TheVariants as part
 use Rattle.up_compare.specs.Parts.{Agree, same_part}

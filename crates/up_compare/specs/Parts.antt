@@ -4,7 +4,7 @@ use Rattle.std.specs.Cmp.Lexicographic.{pointwise}
 use Rattle.std.specs.Str.{bytes_eq}
 use Rattle.up_value.specs.Values.{Bytes}
 use Rattle.up_conf.specs.declared.job.JobDef.{JobDef}
-use Rattle.up_conf.specs.Jobs.{same_exit}
+use Rattle.up_stanza.specs.Exits.{same_exit}
 use Rattle.up_compare.specs.declared.part.Part.{Part}
 use Rattle.up_compare.specs.declared.part.Part.TheVariants as part
 use Rattle.up_compare.specs.Same.{same_action, same_flag, same_limit, same_option, same_setting, same_tree}

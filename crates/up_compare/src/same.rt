@@ -2,7 +2,7 @@
 ghost use Rattle.std.specs.Prelude.{◌≡◌};
 ghost use Rattle.std.specs.Cmp.Lexicographic.{pointwise};
 ghost use Rattle.std.specs.Str.{bytes_eq};
-ghost use Rattle.up_conf.specs.Jobs.{same_exit};
+ghost use Rattle.up_stanza.specs.Exits.{same_exit};
 ghost use Rattle.up_compare.specs.Same.{same_action, same_flag, same_limit, same_option, same_setting};
 
 use up_stanza::{Action, Exit, Limit, Setting};
@@ -64,16 +64,6 @@ pub(crate) fn same_settings(settings: &[Setting], others: &[Setting]) -> bool
     true
 }
 
-fn same_exit(exit: &Exit, other: &Exit) -> bool
-    ensures { result ≡ same_exit exit.now other.now }
-{
-    match (exit, other) {
-        (Exit::Status(status), Exit::Status(other)) => status == other,
-        (Exit::Signal(signal), Exit::Signal(other)) => signal.number() == other.number(),
-        _ => false,
-    }
-}
-
 pub(crate) fn same_exits(exits: &[Exit], others: &[Exit]) -> bool
     ensures { result ≡ pointwise same_exit exits.now others.now }
 {
@@ -81,7 +71,7 @@ pub(crate) fn same_exits(exits: &[Exit], others: &[Exit]) -> bool
         return false;
     }
     for i in 0..exits.len() {
-        if !same_exit(&exits[i], &others[i]) {
+        if !exits[i].is(others[i]) {
             return false;
         }
     }

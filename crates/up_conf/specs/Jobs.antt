@@ -6,7 +6,6 @@ use Rattle.up_value.specs.Values.{Bytes}
 use Rattle.up_expr.specs.Trees.{Tree}
 use Rattle.up_stanza.specs.declared.action.Action.{Action}
 use Rattle.up_stanza.specs.declared.exit.Exit.{Exit}
-use Rattle.up_stanza.specs.declared.exit.Exit.TheVariants as exit
 use Rattle.up_conf.specs.declared.job.JobDef.{JobDef}
 use Rattle.up_stanza.specs.declared.limit.Limit.{Limit}
 use Rattle.up_stanza.specs.declared.process.Process.TheVariants.{Main, PreStart, PostStart, PreStop, PostStop}
@@ -14,6 +13,7 @@ use Rattle.up_stanza.specs.declared.setting.Setting.{Setting}
 use Rattle.up_stanza.specs.declared.stanza.Console as consoles
 use Rattle.up_stanza.specs.declared.stanza.Console.TheVariants as console
 use Rattle.up_stanza.specs.declared.stanza.Stanza.{Stanza}
+use Rattle.up_stanza.specs.Exits.{same_exit}
 use Rattle.up_stanza.specs.Signals.{hup, term}
 use Rattle.up_stanza.specs.declared.stanza.Stanza.TheVariants.{Env, Export, Task, Manual, Respawn, RespawnLimit, NormalExit, KillTimeout, KillSignal, ReloadSignal, Instance, Console, Chdir, Runs, StartOn, StopOn}
 
@@ -119,11 +119,6 @@ with_new_items same xs (y ∷ ys) = with_new_items same (with_new_item same xs y
 abbrev pub export_with : List Bytes → Stanza → List Bytes
 export_with keys (Export others) = with_new_items bytes_eq keys others
 export_with keys stanza = keys
-
-abbrev pub same_exit : Exit → Exit → Bool
-same_exit (exit.Status status) (exit.Status other) = status == other
-same_exit (exit.Signal signal) (exit.Signal other) = signal == other
-same_exit status signal = false
 
 abbrev pub normal_with : List Exit → Stanza → List Exit
 normal_with exits (NormalExit others) = with_new_items same_exit exits others

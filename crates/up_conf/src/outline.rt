@@ -3,7 +3,8 @@
 ghost use Rattle.std.specs.Prelude.{◌≡◌, ◌∷◌, [], IfOk, option_copied, unwrap_or};
 ghost use Rattle.std.specs.List.{list_any};
 ghost use Rattle.up_stanza.specs.declared.stanza.Stanza.TheVariants.{NormalExit, Runs};
-ghost use Rattle.up_conf.specs.Jobs.{with_new_item, with_new_items, is_silent, plain_job, same_exit};
+ghost use Rattle.up_stanza.specs.Exits.{same_exit};
+ghost use Rattle.up_conf.specs.Jobs.{with_new_item, with_new_items, is_silent, plain_job};
 ghost use Rattle.up_conf.specs.Gathering.{others_after};
 
 use crate::both::both;
@@ -59,25 +60,10 @@ fn is_silent(console: Console) -> bool
     }
 }
 
-fn same_exit(exit: &Exit, other: &Exit) -> bool
-    ensures { result ≡ same_exit exit.now other.now }
-{
-    match exit {
-        Exit::Status(status) => match other {
-            Exit::Status(other) => status == other,
-            Exit::Signal(_) => false,
-        },
-        Exit::Signal(signal) => match other {
-            Exit::Status(_) => false,
-            Exit::Signal(other) => signal.number() == other.number(),
-        },
-    }
-}
-
 fn has_exit(exits: &[Exit], exit: &Exit) -> bool
     ensures { result ≡ list_any (same_exit exit.now) exits.now }
 {
-    exits.iter().any(|other| same_exit(exit, other))
+    exits.iter().any(|other| exit.is(*other))
 }
 
 // Adds an exit, if it isn't there.

@@ -18,10 +18,7 @@ use std::process::{Child, Command, OpenProcess, Processes};
 use std::rt::Clock;
 use std::time::Instant;
 use up_model::{How, Order, Process, Who};
-use up_stanza::signal_name;
-
-/// The signal that no process can ignore (signal(7)).
-const KILL: u8 = 9;
+use up_stanza::{KILL, signal_name};
 
 /// A process that the system refused to start.
 #[derive(Drop)]

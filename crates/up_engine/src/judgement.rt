@@ -3,7 +3,7 @@ ghost use Rattle.std.specs.Prelude.{◌≡◌, ℕ, List, ◌++◌, map, Option,
 ghost use Rattle.up_book.specs.Keys.{Mode, Stepping, name_at, instance_place};
 ghost use Rattle.up_engine.specs.Effects.{Judges};
 ghost use Rattle.std.specs.List.{list_any};
-ghost use Rattle.up_conf.specs.Jobs.{same_exit};
+ghost use Rattle.up_stanza.specs.Exits.{same_exit};
 ghost use Rattle.up_model.specs.Chronicle.{Chronicle, Entry as EntryValue};
 ghost use Rattle.up_model.specs.Configuration.{Configuration, job_named};
 ghost use Rattle.up_model.specs.Due.{end_of, end_by};
@@ -13,7 +13,7 @@ ghost use Rattle.up_model.specs.Judgement as model;
 
 use std::alloc::AllocError;
 use up_book::Book;
-use up_cascade::{Setup, is_start};
+use up_cascade::Setup;
 use up_conf::Exit;
 use up_job::{InstanceKey, judge_end};
 use up_model::{End, Failure, How, JobDef, Process, Verdict, Who};
@@ -29,7 +29,7 @@ fn end_itself<B: Book>(book: &mut B, key: InstanceKey) -> Result<(), AllocError>
         → instance_place config c key ≡ Some i
         → B.stands book.new Stepping config (model.end_itself i c ++ c)) }
 {
-    if is_start(book.goal(key)) {
+    if book.goal(key).is_start() {
         book.end_itself(key)?;
     }
     Ok(())

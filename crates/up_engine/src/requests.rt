@@ -30,7 +30,7 @@ use crate::texts::{
 };
 use std::alloc::{AllocError, Global};
 use up_book::{Book, Holders};
-use up_cascade::{Setup, event_of, has_room, is_running, is_start, start_called, stop_of};
+use up_cascade::{Setup, event_of, has_room, start_called, stop_of};
 use up_image::JobFile;
 use up_job::InstanceKey;
 use up_model::{Answer, Command, Input, JobDef, MAX_EVENTS, Process, Request, Who};
@@ -82,7 +82,7 @@ fn running_refusal<B: Book>(
         → model.start_at places job who.now environment (Some i) c
         ≡ unless text (model.Done (offer.start_of job who.now environment places (Some i) c))) }
 {
-    if is_start(book.goal(key)) {
+    if book.goal(key).is_start() {
         let text = already_running(alloc, who)?;
         return Ok(Some(text));
     }
@@ -241,7 +241,7 @@ fn stop_found<B: Book>(
         (model.entries_of (length c) (model.stop_at places vars who.now (Some i) (entry.Given input ∷ c))
         ++ entry.Given input ∷ c)) }
 {
-    if is_start(book.goal(key)) {
+    if book.goal(key).is_start() {
         stop_of(book, key, vars, holders)?;
     } else {
         drop(holders);
@@ -331,7 +331,7 @@ fn can_reload<B: Book>(book: &B, key: InstanceKey) -> bool
         → B.stands book.now mode config c → instance_place config c key ≡ Some i
         → result ≡ (model.is_running (read.state_of i c) && read.lives i Main c) }
 {
-    is_running(book.state_of(key)) && book.lives(key, Process::Main)
+    book.state_of(key).is_running() && book.lives(key, Process::Main)
 }
 
 // Main of an instance is sent a signal, and the client is answered.
@@ -476,7 +476,7 @@ fn restart_found<B: Book>(
         (model.entries_of (length c) (model.restart_at places who.now (Some i) (entry.Given input ∷ c))
         ++ entry.Given input ∷ c)) }
 {
-    if is_running(book.state_of(key)) {
+    if book.state_of(key).is_running() {
         book.release(key)?;
         book.restart(key, holders)?;
     } else {

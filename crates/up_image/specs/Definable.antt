@@ -23,7 +23,7 @@ use Rattle.up_stanza.specs.declared.setting.Setting.{Setting}
 use Rattle.up_stanza.specs.Actions.{is_shell}
 use Rattle.up_stanza.specs.Signals.{is_signal}
 use Rattle.up_conf.specs.declared.job.JobDef.{JobDef}
-use Rattle.up_conf.specs.Jobs.{same_exit}
+use Rattle.up_stanza.specs.Exits.{same_exit}
 use Rattle.up_conf.specs.Order.{is_below}
 use Rattle.up_image.specs.declared.limits.TheConstants.{MAX_COUNT, MAX_DEPTH, MAX_IMAGE, MAX_ITEMS, MAX_JOBS, MAX_KEYS, MAX_SECONDS}
 use Rattle.up_image.specs.Compiling.{has_twice}

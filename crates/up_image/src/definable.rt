@@ -1,7 +1,7 @@
 //! Tells whether files can give jobs.
 ghost use Rattle.std.specs.Prelude.{◌≡◌, ◌≤◌, IfOk, drop, length, map};
 ghost use Rattle.std.specs.List.{list_all, list_any};
-ghost use Rattle.up_conf.specs.Jobs.{same_exit};
+ghost use Rattle.up_stanza.specs.Exits.{same_exit};
 ghost use Rattle.up_text.specs.Names.{is_key, is_name};
 ghost use Rattle.up_image.specs.Compiling.{has_twice};
 ghost use Rattle.up_image.specs.Definable as definable;
@@ -90,25 +90,10 @@ fn can_export(alloc: Global, keys: &[Text]) -> Result<bool, AllocError>
     Ok(!twice)
 }
 
-fn is_same_exit(exit: Exit, other: Exit) -> bool
-    ensures { result ≡ same_exit exit other }
-{
-    match exit {
-        Exit::Status(status) => match other {
-            Exit::Status(second) => status == second,
-            Exit::Signal(_) => false,
-        },
-        Exit::Signal(signal) => match other {
-            Exit::Status(_) => false,
-            Exit::Signal(second) => signal.number() == second.number(),
-        },
-    }
-}
-
 fn has_exit(exits: &[Exit], exit: Exit) -> bool
     ensures { result ≡ list_any (same_exit exit) exits.now }
 {
-    exits.iter().any(|other| is_same_exit(exit, *other))
+    exits.iter().any(|other| exit.is(*other))
 }
 
 // The exits from a place on.

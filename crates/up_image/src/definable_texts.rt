@@ -8,6 +8,7 @@ ghost use Rattle.up_image.specs.Definable as definable;
 
 use crate::limits::MAX_IMAGE;
 use std::alloc::{AllocError, Global};
+use up_stanza::{has_shell, is_shell};
 use up_text::env::is_value;
 use up_text::{Lexer, TextFault};
 
@@ -30,37 +31,6 @@ pub(crate) fn is_token(text: &str) -> bool
     ensures { result ≡ definable.is_token text.now }
 {
     is_utf8(text) && are_token_bytes(text.as_bytes())
-}
-
-// Whether a shell reads the byte as more than itself.
-#[tactic(auto, unfolding(up_stanza::specs::Actions::is_shell))]
-fn is_shell(byte: u8) -> bool
-    ensures { result ≡ is_shell byte }
-{
-    matches!(
-        byte,
-        b'~' | b'`'
-            | b'!'
-            | b'$'
-            | b'^'
-            | b'&'
-            | b'*'
-            | b'('
-            | b')'
-            | b'='
-            | b'|'
-            | b'\\'
-            | b'{'
-            | b'}'
-            | b'['
-            | b']'
-            | b';'
-            | b'"'
-            | b'\''
-            | b'<'
-            | b'>'
-            | b'?'
-    )
 }
 
 #[tactic(auto, unfolding(crate::specs::Definable::is_word_byte, up_text::specs::Tokens::is_line_feed, up_text::specs::Tokens::is_blank, up_text::specs::Tokens::is_hash))]
@@ -112,12 +82,6 @@ fn is_command(alloc: Global, text: &str) -> Result<bool, AllocError>
         Err(TextFault::Memory) => Err(AllocError),
         Err(_) => Ok(false),
     }
-}
-
-fn has_shell(bytes: &[u8]) -> bool
-    ensures { result ≡ list_any is_shell bytes.now }
-{
-    bytes.iter().any(|byte| is_shell(*byte))
 }
 
 // Whether a text is a command's that needs a shell.

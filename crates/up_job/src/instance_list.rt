@@ -46,7 +46,8 @@ impl Model for InstanceList {
         × (r.may_wait ≡ false → any_waits r.instances.items ≡ false) };
 }
 
-fn is_before(name: &str, other: &str) -> bool
+/// Whether a name is before another in byte order.
+pub(crate) fn is_before(name: &str, other: &str) -> bool
     ensures { result ≡ is_below name.now other.now }
 {
     name.cmp(other).is_lt()

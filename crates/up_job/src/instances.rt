@@ -10,7 +10,7 @@ ghost use Rattle.up_job.specs.Named as by_name;
 use crate::change::Change;
 use crate::fault::JobFault;
 use crate::instance::{Instance, new_instance};
-use crate::instance_list::InstanceList;
+use crate::instance_list::{InstanceList, is_before};
 use std::alloc::{AllocError, Global};
 use std::marker::Model;
 use up_image::JobFile;
@@ -48,12 +48,6 @@ impl Model for Instances {
     ghost view = { λ s. s.jobs.items };
 
     ghost invariant = { λ s. AreInOrder job_of s.jobs.items × AllFrom s.alarm s.jobs.items };
-}
-
-fn is_before(name: &str, other: &str) -> bool
-    ensures { result ≡ is_below name.now other.now }
-{
-    name.cmp(other).is_lt()
 }
 
 // Where a job belongs among jobs in order.

@@ -23,7 +23,8 @@ use Rattle.up_job.specs.declared.instance_key.InstanceKey.{InstanceKey}
 use Rattle.up_job.specs.declared.holder.Holder.{Holder}
 use Rattle.up_job.specs.declared.instances.JobInstances.{JobInstances}
 use Rattle.up_model.specs.declared.event_id.EventId.{EventId}
-use Rattle.up_book.specs.Keeps.{Keeps, AreOlder, HoldsOlder, place_at, is_waiting}
+use Rattle.up_model.specs.Predicates.{is_waiting}
+use Rattle.up_book.specs.Keeps.{Keeps, AreOlder, HoldsOlder, place_at}
 use Rattle.up_ledger.specs.Stepping.{stepped}
 use Rattle.up_book.specs.Summaries.{summary, holding_at, blank}
 use Rattle.up_book.specs.Views.{Places, holding_of, bindings_of}

@@ -37,7 +37,8 @@ use Rattle.up_ledger.specs.Asking.{asked_in, asked_of, waiter_of}
 use Rattle.up_ledger.specs.Eventing.{number_of, place_of}
 use Rattle.up_book.specs.Hearers.{IsFound, AreFound, HasIndex}
 use Rattle.up_ledger.specs.Holding.{held_by_kept}
-use Rattle.up_book.specs.Keeps.{is_waiting, AreDistinct, HoldsOlder}
+use Rattle.up_model.specs.Predicates.{is_waiting}
+use Rattle.up_book.specs.Keeps.{AreDistinct, HoldsOlder}
 use Rattle.up_book.specs.Keys.{Mode, Stepping, job_at, instance_place, request_place, held_as}
 use Rattle.up_book.specs.declared.holders.Holders.{Holders}
 use Rattle.up_book.specs.declared.holders.Holders.TheVariants.{Taken, Client, Nobody}

@@ -28,10 +28,8 @@ use up_image::JobFile;
 use up_job::{InstanceKey, Instances};
 use up_marks::{Index, Leaves, lesser_of};
 use up_model::{Answer, Event, EventId, Failure, Goal, Input, Output, Process, State};
+use up_stanza::KILL;
 use up_text::{Env, Items, Text};
-
-/// The signal that no process can pass over.
-const KILL: u8 = 9;
 
 /// What is kept of the past, where the leaves of the expressions are, and what the step that isn't over has asked for.
 #[derive(Drop)]

@@ -23,7 +23,8 @@ ghost use Rattle.up_event.specs.declared.live.LiveEvent.{LiveEvent as LiveEventV
 ghost use Rattle.up_model.specs.Held.{is_held};
 ghost use Rattle.up_ledger.specs.Eventing.{SamePlaces, finished_at, number_of};
 ghost use Rattle.up_model.specs.declared.event_id.EventId.{EventId as EventIdValue};
-ghost use Rattle.up_book.specs.Keeps.{is_waiting, AreOlder};
+ghost use Rattle.up_model.specs.Predicates.{is_waiting};
+ghost use Rattle.up_book.specs.Keeps.{AreOlder};
 ghost use Rattle.up_book.specs.Keys.{SpeaksOf, name_of, called};
 ghost use Rattle.up_job.specs.InstanceLists.{new_instance};
 ghost use Rattle.up_job.specs.JobLists.{with_made, removed_at, position_at};

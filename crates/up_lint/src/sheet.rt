@@ -6,10 +6,9 @@ ghost use Rattle.up_lint.specs.Sheets.{bytes_at, heads_in, is_manual, is_text, o
 
 use crate::head::{Head, begins, push_heads, says};
 use std::alloc::{AllocError, Global};
-use std::str;
 use up_conf::File;
 use up_stanza::read_bytes;
-use up_text::{Items, Text};
+use up_text::{Items, Text, as_text};
 
 /// The longest text of which the stanzas are looked at, in bytes: no job file is longer.
 const MAX_LEN: usize = 1_048_576;
@@ -42,17 +41,6 @@ fn bytes_at<'a>(files: &'a [File], path: &str) -> &'a [u8]
         }
     }
     &[]
-}
-
-// The bytes as a text, if they are UTF-8.
-fn as_text(bytes: &[u8]) -> Option<&str>
-    ensures test { MatchOption result (is_utf8 bytes.now ≡ false) (λ text. is_utf8 bytes.now ≡ true) }
-    ensures same { IfSome result (λ text. text.now ≡ bytes.now) }
-{
-    match str::from_utf8(bytes) {
-        Ok(text) => Some(text),
-        Err(_) => None,
-    }
 }
 
 // The text of which the stanzas are looked at.

@@ -38,13 +38,13 @@ use Rattle.up_model.specs.Offers.{offering, offer_next}
 use Rattle.up_model.specs.Outputs.{order_for, order_by, order_of, signal_of, reply_of, outputs_of}
 use Rattle.up_model.specs.Readings.{made_at, file_of, id_at, goal, state_of, process_env, is_blocking, blocker, failure, holders, pid_of, lives}
 use Rattle.up_model.specs.Replies.{releasing, unanswered, answering_last}
-use Rattle.up_model.specs.Predicates.{is_start, entries_if, or_else}
+use Rattle.up_model.specs.Predicates.{is_start, entries_if, or_else, is_waiting}
 use Rattle.up_model.specs.Values.{Bindings, Bytes}
 use Rattle.up_model.specs.Work.{work, settle}
 use Rattle.up_model.proofs.EffectLaws.{loading-all}
 use Rattle.up_model.proofs.FileLaws.{files-named}
 use Rattle.up_model.proofs.LeftSums.{IsKept, among-no_more, kept-fewer, gone-no_more}
-use Rattle.up_model.proofs.MoveLaws.{Leaves, leaves, IsMove, move-goal, move-is_of, enter-moves, enter-state, is_waiting, enter-all_instances}
+use Rattle.up_model.proofs.MoveLaws.{Leaves, leaves, IsMove, move-goal, move-is_of, enter-moves, enter-state, enter-all_instances}
 use Rattle.up_model.proofs.Places.{count, all-counted, instances-exist}
 use Rattle.up_model.proofs.ReplyLaws.{releasing-all, answering_hurried-all}
 use Rattle.up_model.proofs.Sparing.{same-append, all-append, all-if, all-weaker, IsOf, spared-goal, spared-state, spared-blocker, spared-offerings}

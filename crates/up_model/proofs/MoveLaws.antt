@@ -19,7 +19,7 @@ use Rattle.up_model.specs.Offers.{is_newborn, is_open}
 use Rattle.up_model.specs.Readings.{goal, state_of, is_blocking, blocker, lives}
 use Rattle.up_model.specs.Replies.{releasing}
 use Rattle.up_model.specs.Seen.{was_offered}
-use Rattle.up_model.specs.Predicates.{is_start, entries_if}
+use Rattle.up_model.specs.Predicates.{is_start, entries_if, is_waiting}
 use Rattle.up_model.specs.Values.{Bytes}
 use Rattle.up_model.specs.Work.{moves, moves_at, offer_work, instance_work, work_in, start_work}
 use Rattle.up_model.proofs.Places.{count, all_instances-older, instances-exist}
@@ -196,11 +196,6 @@ enter-blocker job who p from Stopping c aim = rw (eq-eqb p p refl) refl
 enter-blocker job who p from Waiting c Start = refl
 enter-blocker job who p from to c Start = refl
 enter-blocker job who p from to c Stop = refl
-
--- whether an instance is gone on entering a state
-abbrev pub is_waiting : State → Bool
-is_waiting Waiting = true
-is_waiting other = false
 
 entered-all_instances : (p : ℕ) (to : State) (c : Chronicle)
     → all_instances (Entered p to ∷ c) ≡ (if is_waiting to then without_instance p (all_instances c) else all_instances c)

@@ -6,7 +6,7 @@ use Rattle.up_stanza.specs.declared.process.Process.TheVariants.{Main, PreStart,
 use Rattle.std.specs.List.{list_any}
 use Rattle.up_stanza.specs.declared.exit.Exit.{Exit}
 use Rattle.up_stanza.specs.declared.exit.Exit.TheVariants as exit
-use Rattle.up_conf.specs.Jobs.{same_exit}
+use Rattle.up_stanza.specs.Exits.{same_exit}
 use Rattle.up_conf.specs.declared.job.JobDef.{JobDef}
 use Rattle.up_model.specs.declared.failure.Cause.TheVariants as cause
 use Rattle.up_model.specs.declared.failure.End.{End}

@@ -3,6 +3,8 @@ use Rattle.std.specs.Prelude.{ℕ, Bool, true, false, ◌&&◌, ◌==◌, List, 
 use Rattle.std.specs.Str.{bytes_eq}
 use Rattle.up_model.specs.declared.state.Goal.{Goal}
 use Rattle.up_model.specs.declared.state.Goal.TheVariants.{Start, Stop}
+use Rattle.up_model.specs.declared.state.State.{State}
+use Rattle.up_model.specs.declared.state.State.TheVariants.{Waiting}
 use Rattle.up_stanza.specs.declared.process.Process.{Process}
 use Rattle.up_stanza.specs.declared.process.Process.TheVariants.{Main, PreStart, PostStart, PreStop, PostStop}
 use Rattle.up_model.specs.declared.who.Who.{Who}
@@ -10,6 +12,10 @@ use Rattle.up_model.specs.declared.who.Who.{Who}
 abbrev pub is_start : Goal → Bool
 is_start Start = true
 is_start Stop = false
+
+abbrev pub is_waiting : State → Bool
+is_waiting Waiting = true
+is_waiting other = false
 
 -- a number for each process
 abbrev pub process_number : Process → ℕ

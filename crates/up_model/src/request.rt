@@ -1,12 +1,10 @@
 //! What a client asks, and what it is answered.
 ghost use Rattle.std.specs.Prelude.{◌≡◌, IfOk, Some, None, if◌then◌else◌};
-ghost use Rattle.std.specs.List.{list_all};
-ghost use Rattle.up_text.specs.Names.{is_name, is_name_byte};
 ghost use Rattle.up_model.specs.Requests.{command_name, command_named, may_wait, is_alone, is_request};
 
 use std::alloc::AllocError;
 use std::marker::Model;
-use up_text::{Env, Text};
+use up_text::{Env, Text, is_name};
 
 /// A command of initctl(8).
 #[derive(Clone, Copy, Debug, PartialEq, Eq, Hash)]
@@ -111,30 +109,6 @@ impl Model for Request {
     ghost invariant = { λ r. is_request r.command r.wait r.name r.vars ≡ true };
 }
 
-#[tactic(auto, unfolding(up_value::specs::Names::is_name_byte, up_value::specs::Names::is_special))]
-fn is_name_byte(byte: u8) -> bool
-    ensures { result ≡ is_name_byte byte }
-{
-    matches!(byte, 0x21..=0x7E)
-        && !matches!(
-            byte,
-            b'"' | b'\'' | b'\\' | b'(' | b')' | b'#' | b'=' | b'$'
-        )
-}
-
-fn are_name_bytes(bytes: &[u8]) -> bool
-    ensures { result ≡ list_all is_name_byte bytes.now }
-{
-    bytes.iter().all(|byte| is_name_byte(*byte))
-}
-
-fn is_name(text: &Text) -> bool
-    ensures { result ≡ is_name text.now }
-{
-    let bytes = text.as_str().as_bytes();
-    !bytes.is_empty() && are_name_bytes(bytes)
-}
-
 fn is_request(command: Command, wait: bool, name: &Text, vars: &Env) -> bool
     ensures { result ≡ is_request command wait name.now vars.now }
 {
@@ -143,7 +117,7 @@ fn is_request(command: Command, wait: bool, name: &Text, vars: &Env) -> bool
     } else if command.is_alone() {
         name.is("") && vars.is_empty()
     } else {
-        is_name(name)
+        is_name(name.as_str())
     }
 }
 

@@ -1,5 +1,7 @@
 //! Where an instance of a job is, and where it is heading.
 ghost use Rattle.std.specs.Prelude.{◌≡◌};
+ghost use Rattle.up_model.specs.Commands.{is_running};
+ghost use Rattle.up_model.specs.Predicates.{is_start, is_waiting};
 ghost use Rattle.up_model.specs.Status.{goal_name, state_name};
 
 /// Where an instance is heading: to run, or to be at rest (initctl(8)).
@@ -10,6 +12,15 @@ pub enum Goal {
 }
 
 impl Goal {
+    pub fn is_start(self) -> bool
+        ensures { result ≡ is_start self }
+    {
+        match self {
+            Goal::Start => true,
+            Goal::Stop => false,
+        }
+    }
+
     /// The goal as a client reads it.
     pub fn name(self) -> &'static str
         ensures { result.now ≡ goal_name self }
@@ -37,6 +48,40 @@ pub enum State {
 }
 
 impl State {
+    pub fn is_waiting(self) -> bool
+        ensures { result ≡ is_waiting self }
+    {
+        match self {
+            State::Waiting => true,
+            State::Starting
+            | State::PreStart
+            | State::Spawned
+            | State::PostStart
+            | State::Running
+            | State::PreStop
+            | State::Stopping
+            | State::Killed
+            | State::PostStop => false,
+        }
+    }
+
+    pub fn is_running(self) -> bool
+        ensures { result ≡ is_running self }
+    {
+        match self {
+            State::Running => true,
+            State::Waiting
+            | State::Starting
+            | State::PreStart
+            | State::Spawned
+            | State::PostStart
+            | State::PreStop
+            | State::Stopping
+            | State::Killed
+            | State::PostStop => false,
+        }
+    }
+
     /// The state as a client reads it.
     pub fn name(self) -> &'static str
         ensures { result.now ≡ state_name self }

@@ -9,9 +9,8 @@ ghost use Rattle.up_script.specs.Bundle.{none_or_first, IsPart};
 
 use memchr::memchr;
 use std::alloc::{AllocError, Global};
-use std::str;
 use up_conf::Folder;
-use up_text::{Items, Text};
+use up_text::{Items, Text, as_text};
 
 /// The most bytes that a bundle has: 64 MiB.
 pub const MAX_BUNDLE: usize = 67_108_864;
@@ -166,17 +165,6 @@ fn to_header(text: &[u8]) -> (&[u8], &[u8], u32)
     }
     let content = &text[..text.len() - rest.len()];
     (content, rest, lines)
-}
-
-/// The bytes as a text, if they are UTF-8.
-pub(crate) fn as_text(bytes: &[u8]) -> Option<&str>
-    ensures test { MatchOption result (is_utf8 bytes.now ≡ false) (λ text. is_utf8 bytes.now ≡ true) }
-    ensures same { IfSome result (λ text. text.now ≡ bytes.now) }
-{
-    match str::from_utf8(bytes) {
-        Ok(text) => Some(text),
-        Err(_) => None,
-    }
 }
 
 // The path of a line that begins a file.

@@ -7,6 +7,5 @@ pub mod Shrinking
 pub mod Signals
 pub mod Standing
 pub mod Telling
-pub mod Texts
 pub mod Totals
 pub mod Words

@@ -4,6 +4,8 @@ pub mod Actions
 pub mod Numbers
 -- The signals that a job file may name (signal(7)).
 pub mod Signals
+-- How a process may end (init(5), `normal exit`).
+pub mod Exits
 -- What a token says that is one of a list of arguments (init(5)).
 pub mod Settings
 -- What a stanza says whose arguments are the tokens up to its end (init(5)).

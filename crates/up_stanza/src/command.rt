@@ -14,8 +14,9 @@ use up_text::{Items, Text, next_word};
 /// The most words that a command has.
 const MAX_WORDS: usize = 65_535;
 
+/// Whether a shell reads the byte as more than itself.
 #[tactic(auto, unfolding(crate::specs::Actions::is_shell))]
-fn is_shell(byte: u8) -> bool
+pub fn is_shell(byte: u8) -> bool
     ensures { result ≡ is_shell byte }
 {
     matches!(
@@ -44,7 +45,8 @@ fn is_shell(byte: u8) -> bool
     )
 }
 
-fn has_shell(bytes: &[u8]) -> bool
+/// Whether a shell reads one of the bytes as more than itself.
+pub fn has_shell(bytes: &[u8]) -> bool
     ensures { result ≡ list_any is_shell bytes.now }
 {
     bytes.iter().any(|byte| is_shell(*byte))

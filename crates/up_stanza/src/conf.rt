@@ -14,8 +14,7 @@ use crate::fault::{ConfFault, FaultCode};
 use crate::reader::read_stanzas;
 use crate::stanza::{Stanza, Stanzas};
 use std::alloc::{AllocError, Global};
-use std::str;
-use up_text::Lexer;
+use up_text::{Lexer, as_text};
 
 /// The longest file that is read, in bytes.
 const MAX_LEN: usize = 1_048_576;
@@ -98,17 +97,6 @@ fn read_text(alloc: Global, text: &str) -> Result<Result<Stanzas, ConfFault>, Al
     match fault {
         Some(fault) => Ok(Err(fault)),
         None => Ok(Ok(stanzas)),
-    }
-}
-
-// The bytes as a text, if they are UTF-8.
-fn as_text(bytes: &[u8]) -> Option<&str>
-    ensures test { MatchOption result (is_utf8 bytes.now ≡ false) (λ text. is_utf8 bytes.now ≡ true) }
-    ensures same { IfSome result (λ text. text.now ≡ bytes.now) }
-{
-    match str::from_utf8(bytes) {
-        Ok(text) => Some(text),
-        Err(_) => None,
     }
 }
 

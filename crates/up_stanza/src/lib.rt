@@ -22,6 +22,7 @@ pub mod stanza;
 mod statement;
 
 pub use action::Action;
+pub use command::{has_shell, is_shell};
 pub use conf::{read_bytes, read_conf};
 pub use exit::Exit;
 pub use fault::{ConfFault, FaultCode};
@@ -29,5 +30,5 @@ pub use limit::Limit;
 pub use number::number_in;
 pub use process::Process;
 pub use setting::Setting;
-pub use signal::{Signal, signal_name};
+pub use signal::{KILL, Signal, signal_name};
 pub use stanza::{Console, Stanza, Stanzas};

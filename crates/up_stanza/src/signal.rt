@@ -30,6 +30,9 @@ impl Model for Signal {
 /// The number of the signal HUP.
 const HUP: u8 = 1;
 
+/// The number of the signal KILL, which no process can catch or ignore (signal(7)).
+pub const KILL: u8 = 9;
+
 /// The number of the signal TERM.
 const TERM: u8 = 15;
 

@@ -1,1 +1,2 @@
 pub mod BindingLemmas
+pub mod Texts

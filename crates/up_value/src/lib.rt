@@ -13,5 +13,5 @@ pub mod text;
 pub use env::Env;
 pub use fault::TextFault;
 pub use items::Items;
-pub use name::Name;
-pub use text::Text;
+pub use name::{Name, is_name};
+pub use text::{Text, as_text};

@@ -43,15 +43,15 @@ fn are_name_bytes(bytes: &[u8]) -> bool
     bytes.iter().all(|byte| is_name_byte(*byte))
 }
 
-fn is_name(text: &str) -> bool
+/// Whether the text may be a name: it has one or more bytes from 0x21 to 0x7E without `"`, `'`, `\`, `(`, `)`, `#`, `=` and `$`.
+pub fn is_name(text: &str) -> bool
     ensures { result ≡ is_name text.now }
 {
     !text.is_empty() && are_name_bytes(text.as_bytes())
 }
 
 impl Name {
-    /// The name of these bytes. Refused with `BadName` if they are no name: a name has one or more bytes from 0x21 to 0x7E
-    /// without `"`, `'`, `\`, `(`, `)`, `#`, `=` and `$`.
+    /// The name of these bytes. Refused with `BadName` if they are no name ([`is_name`]).
     pub fn new(alloc: Global, text: &str) -> Result<Self, TextFault>
         ensures named { IfOk result (λ name. (name ≡ text.now) × IsTrue (is_name text.now)) }
         ensures refused { IfErr result (λ fault. fault

@@ -1,9 +1,10 @@
 //! A text that contracts see as the list of its bytes.
-ghost use Rattle.std.specs.Prelude.{◌≡◌, ◌↔◌, IfOk, IsTrue, string_bytes, length};
-ghost use Rattle.std.specs.Str.{bytes_eq};
+ghost use Rattle.std.specs.Prelude.{◌≡◌, ◌↔◌, IfOk, IfSome, IsTrue, MatchOption, false, length, string_bytes, true};
+ghost use Rattle.std.specs.Str.{bytes_eq, is_utf8};
 
 use std::alloc::{AllocError, Global};
 use std::marker::Model;
+use std::str;
 
 /// UTF-8 text, seen by contracts as the list of its bytes.
 #[derive(Debug, Drop)]
@@ -74,5 +75,16 @@ impl Text {
     {
         let text = self.text.clone()?;
         Ok(Text { text })
+    }
+}
+
+/// The bytes as a text, if they are UTF-8.
+pub fn as_text(bytes: &[u8]) -> Option<&str>
+    ensures test { MatchOption result (is_utf8 bytes.now ≡ false) (λ text. is_utf8 bytes.now ≡ true) }
+    ensures same { IfSome result (λ text. text.now ≡ bytes.now) }
+{
+    match str::from_utf8(bytes) {
+        Ok(text) => Some(text),
+        Err(_) => None,
     }
 }
