@@ -1,7 +1,6 @@
 //! The instances of all jobs.
 ghost use Rattle.std.specs.Prelude.{◌≡◌, ◌+◌, ◌<◌, ◌≤◌, [], ◌∷◌, length, map, true, IsSome, IfOk, IfErr, OnOk, OnErr, MatchResult, Some, None};
 ghost use Rattle.std.specs.Option.{option_copied};
-ghost use Rattle.up_conf.specs.Order.{is_below};
 ghost use Rattle.up_job.specs.Changes.{changed};
 ghost use Rattle.up_job.specs.InstanceLists.{max_instances, named, new_instance, refusal, with_change, with_instance, without, IsInstanceList};
 ghost use Rattle.up_job.specs.JobLists.{file_name, job_of, new_job, instances_in, Changes};
