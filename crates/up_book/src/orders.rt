@@ -14,7 +14,7 @@ use std::alloc::{AllocError, Global};
 use up_conf::{Action, JobDef};
 use up_job::Instance;
 use up_model::{Order, Output, Process, Who};
-use up_text::{Env, Items, Name, Text};
+use up_text::{Env, Items, Name, Text, copy_texts};
 
 // An instance as it is known outside.
 fn who_of(job: &Name, kept: &Instance) -> Result<Who, AllocError>
@@ -23,16 +23,6 @@ fn who_of(job: &Name, kept: &Instance) -> Result<Who, AllocError>
     let job = job.copy()?;
     let instance = kept.name.copy()?;
     Ok(Who { job, instance })
-}
-
-fn copy_of_words(alloc: Global, words: &[Text]) -> Result<Items<Text>, AllocError>
-    ensures { IfOk result (λ copied. copied ≡ words.now) }
-{
-    let mut copied = Vec::with_capacity(alloc, words.len())?;
-    for word in words {
-        copied.push(word.copy()?)?;
-    }
-    Ok(Items::new(copied))
 }
 
 // The words with which the shell gets a text.
@@ -52,7 +42,7 @@ fn argv_of(alloc: Global, action: &Action) -> Result<Items<Text>, AllocError>
     ensures { IfOk result (λ words. words ≡ model.argv_of action.now) }
 {
     match action {
-        Action::Words(words) => copy_of_words(alloc, words.as_slice()),
+        Action::Words(words) => copy_texts(alloc, words.as_slice()),
         Action::Shell(text) => shell_words(alloc, text),
     }
 }

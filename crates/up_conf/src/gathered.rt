@@ -10,7 +10,6 @@ ghost use Rattle.up_value.specs.Values.{Bytes};
 ghost use Rattle.up_conf.specs.Gathering.{AreIndexed, AreSeen};
 ghost use Rattle.up_conf.specs.Jobs.{with_new_items, with_new_item, env_with, export_with, put, fold_stanzas};
 
-use crate::copies::copy_setting;
 use std::alloc::{AllocError, Global};
 use std::collections::{BTreeMap, BTreeSet};
 use up_stanza::{Setting, Stanza};
@@ -75,7 +74,7 @@ fn put<'a>(
     ensures put { OnOk result (settings.new.items ≡ put setting.now settings.old.items) }
     ensures indexed { OnOk result (AreIndexed places.new settings.new.items) }
 {
-    let copied = copy_setting(alloc, setting)?;
+    let copied = setting.copy()?;
     let key = setting.key.as_str();
     match find(places, key) {
         Some(place) => replace(settings, place, copied),

@@ -1,12 +1,12 @@
 //! What the files of a job say of it.
 ghost use Rattle.std.specs.Prelude.{◌≡◌, IfOk};
 
-use crate::copies::{copy_exits, copy_settings, copy_texts};
+use crate::copies::{copy_exits, copy_settings};
 use crate::outline::outline_of;
 use std::alloc::{AllocError, Global};
 use up_expr::Condition;
 use up_stanza::{Action, Exit, Limit, Setting, Signal};
-use up_text::{Items, Name, Text};
+use up_text::{Items, Name, Text, copy_texts};
 
 /// A job (init(5)).
 #[derive(Debug, Drop)]

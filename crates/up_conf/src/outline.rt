@@ -8,7 +8,6 @@ ghost use Rattle.up_conf.specs.Jobs.{with_new_item, with_new_items, is_silent, p
 ghost use Rattle.up_conf.specs.Gathering.{others_after};
 
 use crate::both::both;
-use crate::copies::copy_action;
 use crate::job::JobDef;
 use std::alloc::{AllocError, Global};
 use std::marker::Model;
@@ -195,7 +194,7 @@ fn copy_run(alloc: Global, action: Option<&Action>) -> Result<Option<Action>, Al
 {
     match action {
         Some(action) => {
-            let action = copy_action(alloc, action)?;
+            let action = action.copy(alloc)?;
             Ok(Some(action))
         }
         None => Ok(None),

@@ -4,7 +4,7 @@ use Rattle.std.specs.List.{list_any, list_all, position_or_len, before_first, af
 use Rattle.std.specs.Str.{bytes_eq}
 use Rattle.up_expr.specs.declared.operand.TheConstants.{MAX_VALUES}
 use Rattle.up_value.specs.Values.{Bytes}
-use Rattle.up_text.specs.Names.{is_name, is_key}
+use Rattle.up_text.specs.Names.{has_equals, is_equals, is_key, is_name}
 use Rattle.up_text.specs.declared.token.Token.{Token}
 use Rattle.up_text.specs.Expansion.{is_expandable}
 use Rattle.up_text.specs.Pattern.{supported}
@@ -34,14 +34,6 @@ is_operator token = is_and token || is_or token
 -- a token that no leaf may have
 abbrev pub is_symbol : Token → Bool
 is_symbol token = is_open token || is_close token || is_operator token
-
--- the = after a key
-abbrev pub is_equals : ℕ → Bool
-is_equals byte = byte == 61
-
--- a text with an = in it
-abbrev pub has_equals : Bytes → Bool
-has_equals text = nat_lt (position_or_len is_equals text) (length text)
 
 -- a key with a ! after it
 abbrev pub is_negated_key : Bytes → Bool

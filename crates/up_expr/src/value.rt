@@ -1,25 +1,14 @@
 //! What the value tokens of a leaf say.
 ghost use Rattle.std.specs.Prelude.{◌≡◌, IfErr, IfOk, OnErr, true, false, MatchOption, length, ◌-◌, take};
-ghost use Rattle.std.specs.List.{before_first, after_first};
 ghost use Rattle.up_expr.specs.Values as values;
-ghost use Rattle.up_expr.specs.Values.{is_equals};
 ghost use Rattle.up_expr.specs.Parts.{test_in};
 ghost use Rattle.up_expr.specs.declared.fault.ExprFault.TheVariants.{Memory};
 
 use crate::expr::Test;
 use crate::fault::ExprFault;
 use std::alloc::{AllocError, Global};
-use up_text::env::is_key;
+use up_text::env::{is_key, split_pair};
 use up_text::{Text, is_expandable, supported};
-
-// The parts of a text before and after its first =, if it has one.
-fn split_value(text: &str) -> Option<(&str, &str)>
-    ensures { MatchOption result (values.has_equals text.now
-        ≡ false) (λ parts. (values.has_equals text.now ≡ true)
-        × (parts.0.now ≡ before_first is_equals text.now) × (parts.1.now ≡ after_first is_equals text.now)) }
-{
-    text.split_once('=')
-}
 
 // The key of KEY!, if the text is that.
 fn negated_key(text: &str) -> Option<&str>
@@ -46,7 +35,7 @@ pub(crate) enum Parts<'a> {
 pub(crate) fn parts_of(text: &str) -> Parts<'_>
     ensures { test_in result ≡ values.test_of text.now }
 {
-    if let Some((key, value)) = split_value(text) {
+    if let Some((key, value)) = split_pair(text) {
         if is_key(key) {
             return Parts::Same(key, value);
         }

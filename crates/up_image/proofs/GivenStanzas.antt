@@ -10,11 +10,10 @@ use Rattle.up_text.specs.declared.token.Token.{Token}
 use Rattle.up_text.specs.Commands.{command_marks_at}
 use Rattle.up_text.specs.Expansion.{is_expandable}
 use Rattle.up_text.specs.Lists.{begins}
-use Rattle.up_text.specs.Names.{is_key}
+use Rattle.up_text.specs.Names.{is_key, is_equals, has_equals}
 use Rattle.up_text.specs.Places.{Place, Got, Ended, start, reading, with_parens, place_after}
 use Rattle.up_text.specs.Statements.{IsStatement}
 use Rattle.up_text.specs.Tokens.{Mark, Part, Quoting, Folded, Blank, Passed, Stop, Mode, Outside, Comment, Escaped, Continued, Quoted, QuotedEscape, marks, mark_of, mark_outside, mark_quoted, mode_after, open_after, end_marks, is_line_feed, is_blank, is_hash, is_quote, is_backslash, reaches_feed}
-use Rattle.up_expr.specs.Values.{is_equals, has_equals}
 use Rattle.up_stanza.specs.declared.exit.Exit.{Exit}
 use Rattle.up_stanza.specs.declared.exit.Exit.TheVariants as exit
 use Rattle.up_stanza.specs.declared.action.Action.{Action}

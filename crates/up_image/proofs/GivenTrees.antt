@@ -6,7 +6,7 @@ use Rattle.std.proofs.lemmas.Bool.{and_from, and_parts, not-false, false≢true,
 use Rattle.std.proofs.lemmas.List.Folds.{list_all-append}
 use Rattle.std.proofs.lemmas.List.Sums.{prefix_len_stops}
 use Rattle.std.proofs.lemmas.Str.{is_utf8-from_IsUtf8, IsUtf8-from_is_utf8, IsUtf8-drop, IsCharBoundary-after_ascii}
-use Rattle.up_text.specs.Names.{is_name, is_key}
+use Rattle.up_text.specs.Names.{is_name, is_key, is_equals, has_equals}
 use Rattle.up_text.specs.declared.token.Token.{Token}
 use Rattle.up_expr.specs.declared.expr.Leaf.{Leaf}
 use Rattle.up_expr.specs.declared.expr.Test.TheVariants.{Place, Same, Differs}
@@ -14,7 +14,7 @@ use Rattle.up_expr.specs.Flat.{size}
 use Rattle.up_expr.specs.Trees.{Tree, One, Both, Either}
 use Rattle.up_expr.proofs.Counting.{sized}
 use Rattle.up_expr.specs.Syntax.{Syntax, Bare, Group, Joined, Writes, tokens_of, is_right, tree_in, depth, join_trees, with_both}
-use Rattle.up_expr.specs.Values.{is_equals, has_equals, is_negated_key, is_good, is_ordered, is_symbol, is_and, is_operator, test_of, test_by, values_of, are_values, leaf_of}
+use Rattle.up_expr.specs.Values.{is_negated_key, is_good, is_ordered, is_symbol, is_and, is_operator, test_of, test_by, values_of, are_values, leaf_of}
 use Rattle.up_stanza.proofs.Backward.{mapped}
 use Rattle.up_image.specs.Definable.{is_token_byte, is_token, is_test, is_leaf, are_leaves, is_lone, is_shallow, can_await}
 

@@ -4,7 +4,7 @@ use Rattle.std.specs.List.{list_all, list_any, before_first, concat, starts_with
 use Rattle.std.specs.Str.{bytes_eq, is_utf8}
 use Rattle.up_text.specs.Commands.{command_marks_at, command_in}
 use Rattle.up_text.specs.Expansion.{is_expandable}
-use Rattle.up_text.specs.Names.{is_name, is_key, is_value}
+use Rattle.up_text.specs.Names.{is_name, is_key, is_value, is_equals, has_equals}
 use Rattle.up_text.specs.Places.{start, fault_in}
 use Rattle.up_text.specs.Scripts.{is_filled, lines_of, script_in}
 use Rattle.up_text.specs.Tokens.{Mark, is_line_feed, is_blank, is_hash}
@@ -14,7 +14,7 @@ use Rattle.up_expr.specs.declared.expr.Test.TheVariants.{Place, Same, Differs}
 use Rattle.up_expr.specs.declared.node.Node.{Node}
 use Rattle.up_expr.specs.declared.node.Node.TheVariants as node
 use Rattle.up_expr.specs.Trees.{Tree, One, Both, Either}
-use Rattle.up_expr.specs.Values.{is_equals, has_equals, is_negated_key, is_good_value, is_ordered}
+use Rattle.up_expr.specs.Values.{is_negated_key, is_good_value, is_ordered}
 use Rattle.up_stanza.specs.declared.action.Action.{Action}
 use Rattle.up_stanza.specs.declared.action.Action.TheVariants.{Words, Shell}
 use Rattle.up_stanza.specs.declared.exit.Exit.{Exit}

@@ -2,19 +2,19 @@
 ghost use Rattle.std.specs.Prelude.{◌≡◌, ◌≤◌, IfOk, drop, length, map};
 ghost use Rattle.std.specs.List.{list_all, list_any};
 ghost use Rattle.up_stanza.specs.Exits.{same_exit};
-ghost use Rattle.up_text.specs.Names.{is_key, is_name};
+ghost use Rattle.up_text.specs.Names.{is_key};
 ghost use Rattle.up_image.specs.Compiling.{has_twice};
 ghost use Rattle.up_image.specs.Definable as definable;
 
 use crate::definable_events::can_await;
-use crate::definable_texts::{is_shell_text, is_token, is_word};
+use crate::definable_texts::{is_name, is_shell_text, is_token, is_word};
 use crate::limits::{MAX_COUNT, MAX_ITEMS, MAX_KEYS, MAX_SECONDS};
 use crate::twice::has_twice;
 use std::alloc::{AllocError, Global};
 use up_conf::JobDef;
 use up_stanza::{Action, Exit, Setting};
 use up_text::env::is_key;
-use up_text::{Name, Text, is_expandable};
+use up_text::{Text, is_expandable};
 
 fn is_setting(setting: &Setting) -> bool
     ensures { result ≡ definable.is_setting setting.now }
@@ -160,14 +160,6 @@ fn can_run(alloc: Global, action: &Option<Action>) -> Result<bool, AllocError>
         Some(Action::Words(words)) => Ok(are_words(words.as_slice())),
         Some(Action::Shell(text)) => is_shell_text(alloc, text.as_str()),
     }
-}
-
-// Each name is one.
-fn is_name(name: &Name) -> bool
-    ensures { result ≡ is_name name.now }
-{
-    let _text = name.as_str();
-    true
 }
 
 fn has_texts(job: &JobDef) -> bool

@@ -2,15 +2,14 @@
 ghost use Rattle.std.specs.Prelude.{◌≡◌, ◌-◌, Some};
 ghost use Rattle.std.specs.List.{list_all};
 ghost use Rattle.up_expr.specs.Values as values;
-ghost use Rattle.up_text.specs.Names.{is_name};
 ghost use Rattle.up_image.specs.Definable as definable;
 ghost use Rattle.up_image.specs.Image.{is_short};
 
-use crate::definable_texts::is_token;
+use crate::definable_texts::{is_name, is_token};
 use crate::limits::{MAX_DEPTH, MAX_ITEMS, MAX_NODES};
 use up_expr::{Branch, Condition, Leaf, Node, Root, Test};
 use up_text::env::is_key;
-use up_text::{Name, is_expandable, supported};
+use up_text::{is_expandable, supported};
 
 // Whether a text is a key with a ! after it.
 fn is_negated_key(text: &str) -> bool
@@ -75,14 +74,6 @@ fn is_ordered(tests: &[Test]) -> bool
             return false;
         }
     }
-    true
-}
-
-// Each name is one.
-fn is_name(name: &Name) -> bool
-    ensures { result ≡ is_name name.now }
-{
-    let _text = name.as_str();
     true
 }
 

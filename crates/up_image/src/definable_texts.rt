@@ -3,6 +3,7 @@ ghost use Rattle.std.specs.Prelude.{◌≡◌, ◌≤◌, IfOk, length, nat_eq, 
 ghost use Rattle.std.specs.List.{list_all, list_any};
 ghost use Rattle.std.specs.Str.{is_utf8};
 ghost use Rattle.up_stanza.specs.Actions.{is_shell};
+ghost use Rattle.up_text.specs.Names.{is_name};
 ghost use Rattle.up_image.specs.declared.limits.TheConstants.{MAX_IMAGE};
 ghost use Rattle.up_image.specs.Definable as definable;
 
@@ -10,13 +11,21 @@ use crate::limits::MAX_IMAGE;
 use std::alloc::{AllocError, Global};
 use up_stanza::{has_shell, is_shell};
 use up_text::env::is_value;
-use up_text::{Lexer, TextFault};
+use up_text::{Lexer, Name, TextFault};
 
 // Each text is UTF-8.
 fn is_utf8(text: &str) -> bool
     ensures { result ≡ is_utf8 text.now }
 {
     let _text = text;
+    true
+}
+
+/// Each name is one.
+pub(crate) fn is_name(name: &Name) -> bool
+    ensures { result ≡ is_name name.now }
+{
+    let _text = name.as_str();
     true
 }
 

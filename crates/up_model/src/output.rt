@@ -6,7 +6,7 @@ use crate::request::Answer;
 use crate::who::Who;
 use std::alloc::{AllocError, Global};
 use up_conf::Process;
-use up_text::{Env, Items, Text};
+use up_text::{Env, Items, Text, copy_texts};
 
 /// The order to start a process.
 #[derive(Drop)]
@@ -22,23 +22,13 @@ pub struct Order {
     pub env: Env,
 }
 
-fn copy_words(alloc: Global, words: &[Text]) -> Result<Items<Text>, AllocError>
-    ensures { IfOk result (λ copied. copied ≡ words.now) }
-{
-    let mut copied: Vec<Text> = Vec::new(alloc);
-    for word in words {
-        copied.push(word.copy()?)?;
-    }
-    Ok(Items::new(copied))
-}
-
 impl Order {
     /// An equal value in memory of its own.
     pub fn copy(&self, alloc: Global) -> Result<Self, AllocError>
         ensures { IfOk result (λ order. order ≡ self.now) }
     {
         let who = self.who.copy()?;
-        let argv = copy_words(alloc, self.argv.as_slice())?;
+        let argv = copy_texts(alloc, self.argv.as_slice())?;
         let dir = self.dir.copy()?;
         let env = self.env.copy()?;
         Ok(Order {
@@ -63,4 +53,34 @@ pub enum Output {
     Emitted(Event),
     /// A client's answer.
     Reply { id: u64, answer: Answer },
+}
+
+impl Output {
+    /// An equal value in memory of its own.
+    pub fn copy(&self, alloc: Global) -> Result<Self, AllocError>
+        ensures { IfOk result (λ output. output ≡ self.now) }
+    {
+        match self {
+            Output::Spawn(order) => {
+                let order = order.copy(alloc)?;
+                Ok(Output::Spawn(order))
+            }
+            Output::Signal { who, pid, signal } => {
+                let who = who.copy()?;
+                Ok(Output::Signal {
+                    who,
+                    pid: *pid,
+                    signal: *signal,
+                })
+            }
+            Output::Emitted(event) => {
+                let event = event.copy()?;
+                Ok(Output::Emitted(event))
+            }
+            Output::Reply { id, answer } => {
+                let answer = answer.copy()?;
+                Ok(Output::Reply { id: *id, answer })
+            }
+        }
+    }
 }

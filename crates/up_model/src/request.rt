@@ -161,3 +161,13 @@ pub struct Answer {
     pub ok: bool,
     pub text: Text,
 }
+
+impl Answer {
+    /// An equal value in memory of its own.
+    pub fn copy(&self) -> Result<Self, AllocError>
+        ensures { IfOk result (λ answer. answer ≡ self.now) }
+    {
+        let text = self.text.copy()?;
+        Ok(Answer { ok: self.ok, text })
+    }
+}

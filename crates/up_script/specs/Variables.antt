@@ -1,15 +1,11 @@
 use Rattle.std.specs.Prelude.{◌≡◌, ℕ, Bool, true, false, ◌==◌, ◌&&◌, nat_lt, List, [], ◌∷◌, length, Option, None, Some, option_and_then, if◌then◌else◌}
-use Rattle.std.specs.List.{position_or_len, before_first, after_first}
-use Rattle.up_text.specs.Names.{is_name, is_key, is_value}
+use Rattle.std.specs.List.{before_first, after_first}
+use Rattle.up_text.specs.Names.{has_equals, is_equals, is_name, is_key, is_value}
 use Rattle.up_text.specs.Bindings.{set_in}
 
 -- a word that is a name
 abbrev pub name_in : List ℕ → Option (List ℕ)
 name_in word = if is_name word then Some word else None
-
--- the sign between a key and its value
-unfoldable pub is_equals : ℕ → Bool
-is_equals byte = byte == 61
 
 -- variables with one more; a key that is there takes the new value
 abbrev pub with_binding : List ℕ → List ℕ → List (List ℕ × List ℕ) → Option (List (List ℕ × List ℕ))
@@ -18,7 +14,7 @@ with_binding key value vars = if is_key key && is_value value then Some (set_in 
 -- variables with that of a word KEY=VALUE, which is cut at its first `=`
 abbrev pub with_word : List ℕ → List (List ℕ × List ℕ) → Option (List (List ℕ × List ℕ))
 with_word word vars =
-    if nat_lt (position_or_len is_equals word) (length word) then with_binding (before_first is_equals word)
+    if has_equals word then with_binding (before_first is_equals word)
     (after_first is_equals word) vars else None
 
 -- variables with those of words KEY=VALUE

@@ -1,9 +1,9 @@
 //! Reads names and variables.
 ghost use Rattle.std.specs.Prelude.{◌≡◌, true, false, [], nat_lt, length, is_some, IfOk, MatchOption, OnErr};
-ghost use Rattle.std.specs.List.{position_or_len, before_first, after_first};
-ghost use Rattle.up_script.specs.Variables.{name_in, is_equals, with_binding, with_word, vars_of, TakesWord};
+ghost use Rattle.up_script.specs.Variables.{name_in, with_binding, with_word, vars_of, TakesWord};
 
 use std::alloc::{AllocError, Global};
+use up_text::env::split_pair;
 use up_text::{Env, Name, Text, TextFault};
 
 /// The name of these bytes, if they are one.
@@ -16,16 +16,6 @@ pub(crate) fn name_of(alloc: Global, text: &str) -> Result<Option<Name>, AllocEr
         Err(TextFault::Memory) => Err(AllocError),
         Err(_) => Ok(None),
     }
-}
-
-// The key and the value of a word KEY=VALUE.
-
-fn cut(word: &str) -> Option<(&str, &str)>
-    ensures { MatchOption result (nat_lt (position_or_len is_equals word.now) (length word.now) ≡ false)
-        (λ parts. (nat_lt (position_or_len is_equals word.now) (length word.now) ≡ true)
-        × (parts.0.now ≡ before_first is_equals word.now) × (parts.1.now ≡ after_first is_equals word.now)) }
-{
-    word.split_once('=')
 }
 
 // Sets a key, and answers whether it is one and has a value that it may have.
@@ -46,7 +36,7 @@ fn set_word(vars: &mut Env, word: &str) -> Result<bool, AllocError>
     ensures taken { IfOk result (λ taken. TakesWord (with_word word.now vars.old) taken vars.new) }
     ensures memory { OnErr result (is_some (with_word word.now vars.old) ≡ true) }
 {
-    match cut(word) {
+    match split_pair(word) {
         Some((key, value)) => set(vars, key, value),
         None => Ok(false),
     }

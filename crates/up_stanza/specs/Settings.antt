@@ -4,8 +4,7 @@ use Rattle.std.specs.List.{before_first, after_first}
 use Rattle.std.specs.Str.{bytes_eq}
 use Rattle.up_value.specs.Values.{Bytes}
 use Rattle.up_text.specs.Expansion.{is_expandable}
-use Rattle.up_text.specs.Names.{is_key}
-use Rattle.up_expr.specs.Values.{is_equals, has_equals}
+use Rattle.up_text.specs.Names.{is_key, is_equals, has_equals}
 use Rattle.up_stanza.specs.declared.exit.Exit.{Exit}
 use Rattle.up_stanza.specs.declared.exit.Exit.TheVariants as exit
 use Rattle.up_stanza.specs.declared.setting.Setting.{Setting}

@@ -1,6 +1,8 @@
 //! What a process runs.
+ghost use Rattle.std.specs.Prelude.{◌≡◌, IfOk};
 
-use up_text::{Items, Text};
+use std::alloc::{AllocError, Global};
+use up_text::{Items, Text, copy_texts};
 
 /// What a process runs (init(5), `exec` and `script`).
 #[derive(Debug, Drop)]
@@ -9,4 +11,22 @@ pub enum Action {
     Words(Items<Text>),
     /// What the shell gets: `/bin/sh -e -c TEXT`.
     Shell(Text),
+}
+
+impl Action {
+    /// An equal value in memory of its own.
+    pub fn copy(&self, alloc: Global) -> Result<Self, AllocError>
+        ensures { IfOk result (λ copied. copied ≡ self.now) }
+    {
+        match self {
+            Action::Words(words) => {
+                let words = copy_texts(alloc, words.as_slice())?;
+                Ok(Action::Words(words))
+            }
+            Action::Shell(text) => {
+                let text = text.copy()?;
+                Ok(Action::Shell(text))
+            }
+        }
+    }
 }

@@ -1,9 +1,8 @@
 //! Reads what a token says that is one of a list of arguments.
 ghost use Rattle.std.specs.Prelude.{◌≡◌, IfOk, MatchOption, OnErr, false, true, is_some, option_map};
-ghost use Rattle.up_text.specs.Names.{is_key};
+ghost use Rattle.up_text.specs.Names.{is_key, is_equals, has_equals};
 ghost use Rattle.std.specs.List.{before_first, after_first};
 ghost use Rattle.std.specs.Result.{result_ok};
-ghost use Rattle.up_expr.specs.Values.{is_equals, has_equals};
 ghost use Rattle.up_stanza.specs.declared.exit.Exit.TheVariants as exit;
 ghost use Rattle.up_stanza.specs.Settings.{key_in, setting_with, setting_in, exit_in, expandable_in, console_in};
 ghost use Rattle.up_stanza.specs.Numbers.{number_in};
@@ -16,7 +15,7 @@ use crate::setting::Setting;
 use crate::signal::{Signal, signal_named};
 use crate::stanza::Console;
 use std::alloc::{AllocError, Global};
-use up_text::env::is_key;
+use up_text::env::{is_key, split_pair};
 use up_text::{Text, is_expandable};
 
 /// The key that a text is.
@@ -29,14 +28,6 @@ pub(crate) fn read_key(alloc: Global, text: &str) -> Result<Result<Text, FaultCo
     }
     let key = Text::from_str(alloc, text)?;
     Ok(Ok(key))
-}
-
-// The parts of a text before and after its first =, if it has one.
-fn split_setting(text: &str) -> Option<(&str, &str)>
-    ensures { MatchOption result (has_equals text.now ≡ false) (λ parts. (has_equals text.now ≡ true)
-        × (parts.0.now ≡ before_first is_equals text.now) × (parts.1.now ≡ after_first is_equals text.now)) }
-{
-    text.split_once('=')
 }
 
 // A value in memory of its own, if there is one.
@@ -79,7 +70,7 @@ pub(crate) fn read_setting(
     ensures read { IfOk result (λ read. result_ok read ≡ setting_in text.now) }
     ensures memory { OnErr result (is_some (setting_in text.now) ≡ true) }
 {
-    match split_setting(text) {
+    match split_pair(text) {
         Some((key, value)) => setting_with(alloc, key, Some(value)),
         None => setting_with(alloc, text, None),
     }

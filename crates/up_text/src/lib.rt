@@ -11,4 +11,4 @@ pub use expansion::{Expanded, expand, is_expandable};
 pub use lexer::{Lexer, next_word, without_comments};
 pub use token::Token;
 pub use up_pattern::{glob, supported};
-pub use up_value::{Env, Items, Name, Text, TextFault, as_text, env, is_name};
+pub use up_value::{Env, Items, Name, Text, TextFault, as_text, copy_texts, env, is_name};

@@ -1,5 +1,5 @@
-use Rattle.std.specs.Prelude.{ℕ, Bool, false, ◌==◌, ◌&&◌, ◌||◌, not, nat_le, List, [], ◌∷◌, length, codes}
-use Rattle.std.specs.List.{list_any, list_all}
+use Rattle.std.specs.Prelude.{ℕ, Bool, false, ◌==◌, ◌&&◌, ◌||◌, not, nat_le, nat_lt, List, [], ◌∷◌, length, codes}
+use Rattle.std.specs.List.{list_any, list_all, position_or_len}
 use Rattle.up_value.specs.Values.{Bytes}
 
 -- the bytes that mean something else in a job file
@@ -31,3 +31,11 @@ is_key (byte ∷ bytes) = is_key_start byte && list_all is_key_byte bytes
 -- a value of an environment: any text without the byte 0
 abbrev pub is_value : Bytes → Bool
 is_value bytes = list_all (λ byte. not (byte == 0)) bytes
+
+-- the sign between a key and its value
+abbrev pub is_equals : ℕ → Bool
+is_equals byte = byte == 61
+
+-- a text with an = in it
+abbrev pub has_equals : Bytes → Bool
+has_equals text = nat_lt (position_or_len is_equals text) (length text)

@@ -1,7 +1,7 @@
 //! Environments: distinct keys with values, in order.
-ghost use Rattle.std.specs.Prelude.{◌≡◌, ◌<◌, ◌↔◌, [], true, length, OnOk, OnErr, IfOk, IfErr, IsTrue, if◌then◌else◌, ◌&&◌, slice_get, option_map, string_bytes, Some};
-ghost use Rattle.std.specs.List.{list_all};
-ghost use Rattle.up_value.specs.Names.{is_key, is_key_start, is_key_byte, is_value};
+ghost use Rattle.std.specs.Prelude.{◌≡◌, ◌<◌, ◌↔◌, [], MatchOption, false, true, length, OnOk, OnErr, IfOk, IfErr, IsTrue, if◌then◌else◌, ◌&&◌, slice_get, option_map, string_bytes, Some};
+ghost use Rattle.std.specs.List.{after_first, before_first, list_all};
+ghost use Rattle.up_value.specs.Names.{has_equals, is_equals, is_key, is_key_start, is_key_byte, is_value};
 ghost use Rattle.up_value.specs.Bindings.{value_of, set_in, set_all, bindings_of};
 
 use crate::fault::TextFault;
@@ -57,6 +57,14 @@ pub fn is_key(text: &str) -> bool
         Some((first, rest)) => is_key_start(*first) && are_key_bytes(rest),
         None => false,
     }
+}
+
+/// What a text says before and after its first `=`, if it has one.
+pub fn split_pair(text: &str) -> Option<(&str, &str)>
+    ensures { MatchOption result (has_equals text.now ≡ false) (λ parts. (has_equals text.now ≡ true)
+        × (parts.0.now ≡ before_first is_equals text.now) × (parts.1.now ≡ after_first is_equals text.now)) }
+{
+    text.split_once('=')
 }
 
 /// Whether the text may be a value: it has no byte 0.

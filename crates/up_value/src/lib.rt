@@ -14,4 +14,4 @@ pub use env::Env;
 pub use fault::TextFault;
 pub use items::Items;
 pub use name::{Name, is_name};
-pub use text::{Text, as_text};
+pub use text::{Text, as_text, copy_texts};

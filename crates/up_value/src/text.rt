@@ -2,6 +2,7 @@
 ghost use Rattle.std.specs.Prelude.{◌≡◌, ◌↔◌, IfOk, IfSome, IsTrue, MatchOption, false, length, string_bytes, true};
 ghost use Rattle.std.specs.Str.{bytes_eq, is_utf8};
 
+use crate::items::Items;
 use std::alloc::{AllocError, Global};
 use std::marker::Model;
 use std::str;
@@ -87,4 +88,15 @@ pub fn as_text(bytes: &[u8]) -> Option<&str>
         Ok(text) => Some(text),
         Err(_) => None,
     }
+}
+
+/// Equal texts in memory of their own.
+pub fn copy_texts(alloc: Global, texts: &[Text]) -> Result<Items<Text>, AllocError>
+    ensures { IfOk result (λ copied. copied ≡ texts.now) }
+{
+    let mut copied = Vec::with_capacity(alloc, texts.len())?;
+    for text in texts {
+        copied.push(text.copy()?)?;
+    }
+    Ok(Items::new(copied))
 }

@@ -9,25 +9,8 @@ use Rattle.up_wire.specs.declared.fault.WireFault.{WireFault}
 use Rattle.up_wire.specs.declared.fault.WireFault.TheVariants.{FrameTooLarge, BadFrame, BadWord, Memory}
 use Rattle.up_model.specs.Requests.{RequestValue}
 use Rattle.up_model.specs.declared.request.Command.{Command}
-use Rattle.up_wire.specs.Words.{is_equals, with_word, with_words, request_with, Makes, Sets}
+use Rattle.up_wire.specs.Words.{with_word, with_words, request_with, Makes, Sets}
 use Rattle.std.specs.Prelude.{unwrap_or}
-
-cut_found : (word : Bytes) (parts : Bor Bytes × Bor Bytes) → IsSplitOnceResult 61 word (Some parts) → (nat_lt (position_or_len is_equals word) (length word) ≡ true) × (parts.0.now ≡ before_first is_equals word) × (parts.1.now ≡ after_first is_equals word)
-unfolding is_equals
-cut_found word parts h =
-    let read = split_once_first 61 word (Some parts) h (omega arith) in
-    (grind (arith, nat_tests), read.1, read.2)
-
-cut_none : (word : Bytes) → IsSplitOnceResult 61 word None → nat_lt (position_or_len is_equals word) (length word) ≡ false
-unfolding is_equals
-cut_none word h =
-    let read = split_once_first 61 word None h (omega arith) in
-    grind (arith, nat_tests)
-
--- what `split_once` gives
-pub cut_is : (word : Bytes) (found : Option (Bor Bytes × Bor Bytes)) → IsSplitOnceResult 61 word found → MatchOption found (nat_lt (position_or_len is_equals word) (length word) ≡ false) (λ parts. (nat_lt (position_or_len is_equals word) (length word) ≡ true) × (parts.0.now ≡ before_first is_equals word) × (parts.1.now ≡ after_first is_equals word))
-cut_is word None h = cut_none word h
-cut_is word (Some parts) h = cut_found word parts h
 
 -- the texts after references
 abbrev pub texts : List (Bor Bytes) → List Bytes

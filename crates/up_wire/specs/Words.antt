@@ -1,20 +1,16 @@
 -- The request that a command's words are.
 use Rattle.std.specs.Prelude.{◌≡◌, ◌==◌, ◌&&◌, ℕ, Bool, false, not, nat_lt, List, [], ◌∷◌, length, Option, None, Some, option_and_then, unwrap_or, codes, if◌then◌else◌, Result, Ok, Err}
-use Rattle.std.specs.List.{position_or_len, before_first, after_first}
+use Rattle.std.specs.List.{before_first, after_first}
 use Rattle.std.specs.Option.{option_map_or}
 use Rattle.std.specs.Str.{bytes_eq}
 use Rattle.clap.specs.Words.{Row, first_of, all_of, one_of}
-use Rattle.up_text.specs.Names.{is_key, is_value}
+use Rattle.up_text.specs.Names.{has_equals, is_equals, is_key, is_value}
 use Rattle.up_text.specs.Bindings.{set_in}
 use Rattle.up_model.specs.Requests.{RequestValue, command_named, is_request}
 use Rattle.up_model.specs.declared.request.Command.{Command}
 use Rattle.up_wire.specs.declared.fault.WireFault.{WireFault}
 use Rattle.up_wire.specs.declared.fault.WireFault.TheVariants.{FrameTooLarge, BadFrame, BadWord, Memory}
 use Rattle.up_wire.specs.Frames.{Bytes, Variables}
-
--- the sign between a key and its value
-unfoldable pub is_equals : ℕ → Bool
-is_equals byte = byte == 61
 
 -- variables with one more; a key that is there takes the new value
 abbrev pub with_binding : Bytes → Bytes → Variables → Option Variables
@@ -23,13 +19,13 @@ with_binding key value vars = if is_key key && is_value value then Some (set_in 
 -- variables with that of a word KEY=VALUE, which is cut at its first `=`
 abbrev pub with_word : Bytes → Variables → Option Variables
 with_word word vars =
-    if nat_lt (position_or_len is_equals word) (length word)
+    if has_equals word
     then with_binding (before_first is_equals word) (after_first is_equals word) vars else None
 
 -- whether a word is KEY=VALUE
 abbrev pub is_binding : Bytes → Bool
 is_binding word =
-    nat_lt (position_or_len is_equals word) (length word)
+    has_equals word
     && (is_key (before_first is_equals word) && is_value (after_first is_equals word))
 
 -- variables with those of words, each set in turn

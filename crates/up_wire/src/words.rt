@@ -1,23 +1,14 @@
 //! The requests of words.
 ghost use Rattle.std.specs.Prelude.{◌≡◌, [], map, not, nat_lt, length, true, false, MatchOption};
-ghost use Rattle.std.specs.List.{position_or_len, before_first, after_first};
 ghost use Rattle.clap.specs.Words.{found_of, rows_of, subcommand_rows_of};
-ghost use Rattle.up_wire.specs.Words.{is_equals, with_binding, with_word, with_words, request_with, is_set, text_in, request_in, request_matched, Makes, Sets};
+ghost use Rattle.up_wire.specs.Words.{with_binding, with_word, with_words, request_with, is_set, text_in, request_in, request_matched, Makes, Sets};
 
 use crate::fault::WireFault;
 use clap::ArgMatches;
 use std::alloc::Global;
 use up_model::{Command, Request};
+use up_text::env::split_pair;
 use up_text::{Env, Text, TextFault};
-
-// The key and the value of a word KEY=VALUE.
-fn cut(word: &str) -> Option<(&str, &str)>
-    ensures { MatchOption result (nat_lt (position_or_len is_equals word.now) (length word.now)
-        ≡ false) (λ parts. (nat_lt (position_or_len is_equals word.now) (length word.now) ≡ true)
-        × (parts.0.now ≡ before_first is_equals word.now) × (parts.1.now ≡ after_first is_equals word.now)) }
-{
-    word.split_once('=')
-}
 
 fn set(vars: &mut Env, key: &str, value: &str) -> Result<(), WireFault>
     ensures { Sets result vars.new (with_binding key.now value.now vars.old) }
@@ -33,7 +24,7 @@ fn set(vars: &mut Env, key: &str, value: &str) -> Result<(), WireFault>
 fn set_word(vars: &mut Env, word: &str) -> Result<(), WireFault>
     ensures { Sets result vars.new (with_word word.now vars.old) }
 {
-    match cut(word) {
+    match split_pair(word) {
         Some((key, value)) => set(vars, key, value),
         None => Err(WireFault::BadWord),
     }
