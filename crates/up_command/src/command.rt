@@ -12,6 +12,7 @@ use up_model::ExitStatus;
 use up_run::pace::MOST_PAUSE;
 use up_run::silence::MOST_SILENCE;
 use up_run::{ReportOptions, Rounds};
+use up_text::env::split_pair;
 use up_text::{Env, Items, Text, TextFault};
 use up_tools::{Kind, View, kind_named};
 use up_wire::DEFAULT_SOCKET;
@@ -104,24 +105,24 @@ fn parse_compile<'a>(given: &ArgMatches<'a>) -> Option<Invocation<'a>> {
 
 // A folder or an image, and the file of what happened to it; or a bundle, which has both and stands alone.
 #[derive(Clone, Copy, Drop)]
-enum Happened<'a> {
+enum Replayed<'a> {
     Over(&'a str, &'a str),
     Bundle(&'a str),
 }
 
-fn parse_happened<'a>(given: &ArgMatches<'a>, file: &str) -> Option<Happened<'a>> {
+fn parse_replayed<'a>(given: &ArgMatches<'a>, file: &str) -> Option<Replayed<'a>> {
     let source = given.get_str("SOURCE")?;
     match (given.get_str(file), is_set(given, "bundle")) {
-        (Some(file), false) => Some(Happened::Over(source, file)),
-        (None, true) => Some(Happened::Bundle(source)),
+        (Some(file), false) => Some(Replayed::Over(source, file)),
+        (None, true) => Some(Replayed::Bundle(source)),
         (Some(_), true) | (None, false) => None,
     }
 }
 
 fn parse_view<'a>(view: View, given: &ArgMatches<'a>) -> Option<Invocation<'a>> {
-    Some(match parse_happened(given, "RECORD")? {
-        Happened::Over(source, log) => Invocation::View { view, source, log },
-        Happened::Bundle(bundle) => Invocation::ViewFile { view, bundle },
+    Some(match parse_replayed(given, "RECORD")? {
+        Replayed::Over(source, log) => Invocation::View { view, source, log },
+        Replayed::Bundle(bundle) => Invocation::ViewFile { view, bundle },
     })
 }
 
@@ -156,7 +157,7 @@ fn parse_run<'a>(given: &ArgMatches<'a>) -> Option<Invocation<'a>> {
 
 // Sets the variable of a word KEY=VALUE.
 fn set_word(base: &mut Env, word: &str) -> Result<(), TextFault> {
-    match word.split_once('=') {
+    match split_pair(word) {
         Some((key, value)) => base.set(key, value),
         None => Err(TextFault::BadName),
     }
@@ -175,17 +176,17 @@ fn parse_replay<'a>(
     alloc: Global,
     given: &ArgMatches<'a>,
 ) -> Result<Option<Invocation<'a>>, TextFault> {
-    let Some(happened) = parse_happened(given, "SCRIPT") else {
+    let Some(replayed) = parse_replayed(given, "SCRIPT") else {
         return Ok(None);
     };
     let base = base_of(alloc, given.get_strs("env").unwrap_or(&[]))?;
-    Ok(Some(match happened {
-        Happened::Over(source, script) => Invocation::Replay {
+    Ok(Some(match replayed {
+        Replayed::Over(source, script) => Invocation::Replay {
             source,
             script,
             base,
         },
-        Happened::Bundle(bundle) => Invocation::ReplayFile { bundle, base },
+        Replayed::Bundle(bundle) => Invocation::ReplayFile { bundle, base },
     }))
 }
 
@@ -262,8 +263,8 @@ fn wanted(word: &str) -> &'static str {
     }
 }
 
-// Which word a command misses, or has beside a bundle.
-fn misses(word: &str, given: &ArgMatches) -> &'static str {
+// Why the words of a command are refused: one is missing, or is there beside a bundle.
+fn missing_word(word: &str, given: &ArgMatches) -> &'static str {
     match (word, is_set(given, "bundle")) {
         ("replay", false) =>
             "SCRIPT is missing: what happened is in a file of its own, unless --bundle says that it is in the first",
@@ -284,7 +285,10 @@ fn parse_matches<'a>(
     };
     match parse_subcommand(alloc, word, given) {
         Ok(Some(invocation)) => Ok(invocation),
-        Ok(None) => Err(command.error(ErrorKind::MissingRequiredArgument, misses(word, given))?),
+        Ok(None) => Err(command.error(
+            ErrorKind::MissingRequiredArgument,
+            missing_word(word, given),
+        )?),
         Err(TextFault::Memory) => Err(Error::from(AllocError)),
         Err(_) => Err(command.error(ErrorKind::InvalidValue, wanted(word))?),
     }

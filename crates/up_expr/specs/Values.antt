@@ -1,6 +1,6 @@
 -- What the tokens of a leaf say (init(5), "Event conditions").
-use Rattle.std.specs.Prelude.{ℕ, ◌-◌, Bool, true, false, ◌==◌, nat_le, nat_lt, nat_eq, ◌&&◌, ◌||◌, not, List, [], ◌∷◌, length, take, map, Option, None, Some, if◌then◌else◌, codes}
-use Rattle.std.specs.List.{list_any, list_all, position_or_len, before_first, after_first, ends_with}
+use Rattle.std.specs.Prelude.{◌-◌, Bool, true, false, nat_le, nat_eq, ◌&&◌, ◌||◌, not, List, [], ◌∷◌, length, take, map, Option, None, Some, if◌then◌else◌, codes}
+use Rattle.std.specs.List.{list_any, list_all, before_first, after_first, ends_with}
 use Rattle.std.specs.Str.{bytes_eq}
 use Rattle.up_expr.specs.declared.operand.TheConstants.{MAX_VALUES}
 use Rattle.up_value.specs.Values.{Bytes}

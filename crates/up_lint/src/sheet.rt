@@ -1,6 +1,5 @@
 //! The stanzas of a job as they stand in its files: those of its own, and then those of its override.
 ghost use Rattle.std.specs.Prelude.{◌≡◌, ◌≤◌, ◌++◌, IfOk, IfSome, OnOk, MatchOption, length, true, false};
-ghost use Rattle.std.specs.Str.{is_utf8};
 ghost use Rattle.up_lint.specs.declared.sheet.TheConstants.{MAX_LEN};
 ghost use Rattle.up_lint.specs.Sheets.{bytes_at, heads_in, is_manual, is_text, override_heads, path_of, sheet_of, spot_of};
 

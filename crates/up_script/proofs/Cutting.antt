@@ -1,8 +1,5 @@
 -- A word that is cut at its first `=`.
-use Rattle.std.proofs.Common.{◌≡◌, ℕ, ◌+◌, ◌<◌, [], ◌∷◌, drop, get_or, ap, add-one, drop-cons, option_and_then, true, false, List, Option, None, Some, length, nat_lt, MatchOption, Bor, arith}
-use Rattle.std.proofs.lemmas.Bool.Decides.{nat_tests}
-use Rattle.std.proofs.lemmas.Str.Pattern.{IsSplitOnceResult, split_once_first}
-use Rattle.std.specs.List.{position_or_len, before_first, after_first}
+use Rattle.std.proofs.Common.{◌≡◌, ℕ, ◌+◌, ◌<◌, [], ◌∷◌, drop, get_or, ap, add-one, drop-cons, option_and_then, List, length}
 use Rattle.up_script.specs.Variables.{with_word, vars_of}
 
 -- the variables of the words from a place on

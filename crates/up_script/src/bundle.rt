@@ -1,5 +1,5 @@
 //! Bundles: files of jobs, and a script, in one stream of bytes.
-ghost use Rattle.std.specs.Prelude.{◌≡◌, ◌+◌, ◌-◌, ◌<◌, ◌≤◌, ◌^◌, ℕ, true, false, ◌++◌, None, Some, if◌then◌else◌, IfOk, OnOk, IfSome, MatchOption, length, take, drop};
+ghost use Rattle.std.specs.Prelude.{◌≡◌, ◌+◌, ◌-◌, ◌<◌, ◌≤◌, ◌^◌, ℕ, true, false, ◌++◌, None, Some, if◌then◌else◌, IfOk, OnOk, length, take, drop};
 ghost use Rattle.std.specs.List.{position_or_len};
 ghost use Rattle.std.specs.Option.{option_or};
 ghost use Rattle.std.specs.Str.{is_utf8};

@@ -1,5 +1,5 @@
 //! Reads names and variables.
-ghost use Rattle.std.specs.Prelude.{◌≡◌, true, false, [], nat_lt, length, is_some, IfOk, MatchOption, OnErr};
+ghost use Rattle.std.specs.Prelude.{◌≡◌, true, false, [], is_some, IfOk, OnErr};
 ghost use Rattle.up_script.specs.Variables.{name_in, with_binding, with_word, vars_of, TakesWord};
 
 use std::alloc::{AllocError, Global};

@@ -1,5 +1,5 @@
 -- What a token says that is one of a list of arguments (init(5)).
-use Rattle.std.specs.Prelude.{ℕ, if◌then◌else◌, List, Option, None, Some, option_map, codes}
+use Rattle.std.specs.Prelude.{if◌then◌else◌, Option, None, Some, option_map, codes}
 use Rattle.std.specs.List.{before_first, after_first}
 use Rattle.std.specs.Str.{bytes_eq}
 use Rattle.up_value.specs.Values.{Bytes}

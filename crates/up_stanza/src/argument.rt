@@ -1,7 +1,6 @@
 //! Reads what a token says that is one of a list of arguments.
-ghost use Rattle.std.specs.Prelude.{◌≡◌, IfOk, MatchOption, OnErr, false, true, is_some, option_map};
-ghost use Rattle.up_text.specs.Names.{is_key, is_equals, has_equals};
-ghost use Rattle.std.specs.List.{before_first, after_first};
+ghost use Rattle.std.specs.Prelude.{◌≡◌, IfOk, OnErr, true, is_some, option_map};
+ghost use Rattle.up_text.specs.Names.{is_key};
 ghost use Rattle.std.specs.Result.{result_ok};
 ghost use Rattle.up_stanza.specs.declared.exit.Exit.TheVariants as exit;
 ghost use Rattle.up_stanza.specs.Settings.{key_in, setting_with, setting_in, exit_in, expandable_in, console_in};

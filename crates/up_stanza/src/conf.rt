@@ -1,6 +1,5 @@
 //! Reads a job file.
-ghost use Rattle.std.specs.Prelude.{◌≡◌, ◌≤◌, ◌⊎◌, IfErr, IfOk, IfSome, MatchOption, MatchResult, Err, Ok, List, true, false, length, nat_le};
-ghost use Rattle.std.specs.Str.{is_utf8};
+ghost use Rattle.std.specs.Prelude.{◌≡◌, ◌≤◌, ◌⊎◌, IfErr, IfOk, MatchResult, Err, Ok, List, true, false, length, nat_le};
 ghost use Rattle.up_stanza.specs.declared.conf.TheConstants.{MAX_LEN, MAX_KEYS};
 ghost use Rattle.up_text.specs.Places.{start};
 ghost use Rattle.up_stanza.specs.declared.fault.FaultCode.TheVariants.{Memory};

@@ -1,9 +1,6 @@
 -- A word that is cut at its first `=`.
-use Rattle.std.proofs.Common.{◌≡◌, ℕ, ◌+◌, ◌<◌, [], ◌∷◌, drop, get_or, map, ap, add-one, drop-cons, option_and_then, true, false, List, Option, None, Some, length, nat_lt, MatchOption, Bor, ◌∙◌, sym, option_map, Result, Err, Bool, not, arith}
-use Rattle.std.proofs.lemmas.Bool.Decides.{nat_tests}
+use Rattle.std.proofs.Common.{◌≡◌, ℕ, ◌+◌, ◌<◌, [], ◌∷◌, drop, get_or, map, ap, add-one, drop-cons, option_and_then, List, Option, None, Some, length, Bor, ◌∙◌, sym, option_map, Result, Err, Bool, not, arith}
 use Rattle.std.proofs.lemmas.List.{get_or-map, length-map}
-use Rattle.std.proofs.lemmas.Str.Pattern.{IsSplitOnceResult, split_once_first}
-use Rattle.std.specs.List.{position_or_len, before_first, after_first}
 use Rattle.up_wire.specs.Frames.{Bytes, Variables}
 use Rattle.up_wire.specs.declared.fault.WireFault.{WireFault}
 use Rattle.up_wire.specs.declared.fault.WireFault.TheVariants.{FrameTooLarge, BadFrame, BadWord, Memory}

@@ -1,5 +1,5 @@
 //! The requests of words.
-ghost use Rattle.std.specs.Prelude.{◌≡◌, [], map, not, nat_lt, length, true, false, MatchOption};
+ghost use Rattle.std.specs.Prelude.{◌≡◌, [], map, false};
 ghost use Rattle.clap.specs.Words.{found_of, rows_of, subcommand_rows_of};
 ghost use Rattle.up_wire.specs.Words.{with_binding, with_word, with_words, request_with, is_set, text_in, request_in, request_matched, Makes, Sets};
 
