@@ -19,7 +19,7 @@ use Rattle.up_expr.specs.Values.{is_ordered}
 use Rattle.up_conf.specs.declared.folder.File.{File}
 use Rattle.up_conf.specs.declared.job.JobDef.{JobDef}
 use Rattle.up_conf.specs.Folders.{jobs_of}
-use Rattle.up_conf.specs.Jobs.{same_exit}
+use Rattle.up_stanza.specs.Exits.{same_exit}
 use Rattle.up_image.specs.Compiling.{has_twice, read_paths}
 use Rattle.up_image.specs.Definable.{are_ascending, are_apart, are_exits, are_leaves, are_definable, can_await, is_definable, can_export, can_run, can_set, has_events, has_lists, has_numbers, has_processes, has_texts, is_exit, is_node, is_setting, is_shallow, is_test, is_word}
 use Rattle.up_image.specs.Image.{body_of, fits, fits_action, fits_condition, fits_lists, fits_node, fits_numbers, fits_processes, has_image, is_countable, is_short}

@@ -13,7 +13,8 @@ use Rattle.up_stanza.specs.declared.setting.Setting.{Setting}
 use Rattle.up_stanza.specs.declared.stanza.Stanza.{Stanza}
 use Rattle.up_stanza.specs.declared.stanza.Stanza.TheVariants.{Env, Export, NormalExit}
 use Rattle.up_stanza.specs.Confs.{keys_set, keys_exported, total}
-use Rattle.up_conf.specs.Jobs.{put, env_with, export_with, normal_with, with_new_item, with_new_items, same_exit, fold_stanzas}
+use Rattle.up_conf.specs.Jobs.{put, env_with, export_with, normal_with, with_new_item, with_new_items, fold_stanzas}
+use Rattle.up_stanza.specs.Exits.{same_exit}
 use Rattle.up_image.specs.Compiling.{has_twice}
 use Rattle.up_image.specs.Definable.{is_setting, is_exit, are_apart}
 use Rattle.up_image.proofs.Repeats.{has_twice-push, or-false}

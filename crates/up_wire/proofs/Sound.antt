@@ -1,12 +1,12 @@
 -- When words are a request.
 use Rattle.std.proofs.Common.{◌≡◌, ◌&&◌, ◌||◌, ◌∙◌, Bool, true, false, List, [], ◌∷◌, Option, None, Some, cond, option_and_then, is_some, length, nat_lt, refl}
 use Rattle.std.specs.List.{list_all, position_or_len, before_first, after_first}
-use Rattle.up_text.specs.Names.{is_name, is_key, is_value}
+use Rattle.up_text.specs.Names.{is_equals, is_key, is_name, is_value}
 use Rattle.up_text.specs.Bindings.{set_in}
 use Rattle.up_model.specs.Requests.{RequestValue, is_alone, is_request, may_wait}
 use Rattle.up_model.specs.declared.request.Command.{Command}
 use Rattle.up_wire.specs.Frames.{Bytes, Variables}
-use Rattle.up_wire.specs.Words.{if_sound, is_binding, is_equals, request_with, with_words}
+use Rattle.up_wire.specs.Words.{if_sound, is_binding, request_with, with_words}
 
 step : (cut sound rest : Bool) (next : Variables) (go : Variables → Option Variables) → is_some (go next) ≡ rest → is_some (option_and_then go (cond cut (cond sound (Some next) None) None)) ≡ ((cut && sound) && rest)
 step true true rest next go h = h

@@ -1,6 +1,6 @@
 use Rattle.std.proofs.Common.{◌≡◌, drop}
 use Rattle.std.specs.Cmp.Lexicographic.{pointwise}
-use Rattle.up_conf.specs.Jobs.{same_exit}
+use Rattle.up_stanza.specs.Exits.{same_exit}
 use Rattle.up_compare.proofs.same.same_exits.Given as goal
 
 abbrev pub invariant-loop-i : goal.invariant-loop-i

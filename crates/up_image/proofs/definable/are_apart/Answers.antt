@@ -1,6 +1,6 @@
 use Rattle.std.proofs.Common.{◌≡◌, ◌-◌, ◌<◌, suc, true, drop, length, sym, ap, ◌∙◌, arith}
 use Rattle.std.specs.List.{list_any}
-use Rattle.up_conf.specs.Jobs.{same_exit}
+use Rattle.up_stanza.specs.Exits.{same_exit}
 use Rattle.up_image.proofs.Ascending.{are_apart_met}
 use Rattle.up_image.proofs.definable.are_apart.Goals as goal
 
