@@ -4,7 +4,7 @@ ghost use Rattle.up_disk.specs.Disk.{ChecksDir, ExplainsDir, GraphsDir, PlaysDir
 ghost use Rattle.up_disk.specs.Walk.{IsWalked};
 ghost use Rattle.up_script.specs.declared.bundle.TheConstants.{MAX_BUNDLE};
 
-use crate::walk::{WalkError, read_file, walk};
+use crate::walk::{cannot_walk, read_file, walk};
 use crate::why::{say, say_error};
 use std::alloc::AllocError;
 use std::io::{Eprint, ErrorKind};
@@ -26,8 +26,7 @@ pub fn check_dir<R: Files + Eprint + AllocGlobal + Clone + Drop>(
 {
     match walk(rt, dir) {
         Ok(folder) => check(rt.alloc(), &folder),
-        Err(WalkError::Unusable(path)) => cannot_use(rt.alloc(), path.as_str()),
-        Err(WalkError::Memory) => Err(AllocError),
+        Err(error) => cannot_walk(rt.alloc(), &error),
     }
 }
 
@@ -40,8 +39,7 @@ pub fn explain_dir<R: Files + Eprint + AllocGlobal + Clone + Drop>(
 {
     match walk(rt, dir) {
         Ok(folder) => check_explained(rt.alloc(), &folder),
-        Err(WalkError::Unusable(path)) => cannot_use(rt.alloc(), path.as_str()),
-        Err(WalkError::Memory) => Err(AllocError),
+        Err(error) => cannot_walk(rt.alloc(), &error),
     }
 }
 
@@ -54,8 +52,7 @@ pub fn graph_dir<R: Files + Eprint + AllocGlobal + Clone + Drop>(
 {
     match walk(rt, dir) {
         Ok(folder) => graph_folder(rt.alloc(), &folder),
-        Err(WalkError::Unusable(path)) => cannot_use(rt.alloc(), path.as_str()),
-        Err(WalkError::Memory) => Err(AllocError),
+        Err(error) => cannot_walk(rt.alloc(), &error),
     }
 }
 
@@ -128,8 +125,7 @@ pub fn replay_dir<R: Files + Eprint + AllocGlobal + Clone + Drop>(
 {
     match walk(rt, dir) {
         Ok(folder) => replay_folder(rt, &folder, base, script),
-        Err(WalkError::Unusable(path)) => cannot_use(rt.alloc(), path.as_str()),
-        Err(WalkError::Memory) => Err(AllocError),
+        Err(error) => cannot_walk(rt.alloc(), &error),
     }
 }
 

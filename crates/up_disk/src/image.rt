@@ -4,7 +4,7 @@ ghost use Rattle.up_disk.specs.Disk.{CompilesDir, Defines, DefinesAll, DefinesIm
 ghost use Rattle.up_disk.specs.Walk.{IsWalked};
 ghost use Rattle.up_image.specs.declared.limits.TheConstants.{MAX_IMAGE};
 
-use crate::walk::{WalkError, read_file, walk};
+use crate::walk::{cannot_walk, read_file, walk};
 use crate::why::{say, say_error};
 use std::alloc::{AllocError, Global};
 use std::fs::{File, Metadata, OpenFile};
@@ -150,8 +150,7 @@ pub fn compile_dir<R: Files + Eprint + AllocGlobal + Clone + Drop>(
 {
     match walk(rt, dir) {
         Ok(folder) => store_folder(rt, &folder, image),
-        Err(WalkError::Unusable(path)) => cannot_use(rt.alloc(), path.as_str()),
-        Err(WalkError::Memory) => Err(AllocError),
+        Err(error) => cannot_walk(rt.alloc(), &error),
     }
 }
 

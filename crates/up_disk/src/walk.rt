@@ -1,7 +1,8 @@
 //! Reads job files, and a folder of them with its subfolders, from the disk.
-ghost use Rattle.std.specs.Prelude.{◌≡◌, ◌≤◌, ◌<◌, ◌+◌, ◌++◌, ◌∷◌, [], map, if◌then◌else◌, true, is_some, IfOk, IfErr, IfSome, OnOk, length, string_bytes};
+ghost use Rattle.std.specs.Prelude.{◌≡◌, ◌≤◌, ◌<◌, ◌+◌, ◌++◌, ◌∷◌, ℕ, List, [], map, if◌then◌else◌, true, is_some, IfOk, IfErr, IfSome, OnOk, length, string_bytes};
 ghost use Rattle.std.specs.IoError.{error_kind};
 ghost use Rattle.up_disk.specs.declared.walk.TheConstants.{MAX_READ};
+ghost use Rattle.up_disk.specs.Disk.{CannotWalk};
 ghost use Rattle.up_disk.specs.Walk.{path_in, is_source, level_of, below, MayAdd, TakesPath, Keeps, IsWalked, Names, NamesDeep, NamesSource, MayFail};
 
 use crate::why::{say, say_error};
@@ -10,6 +11,7 @@ use std::io::{Eprint, ErrorKind, Read};
 use std::rt::Files;
 use std::{fs, io};
 use up_conf::{Folder, job_name, overridden_name};
+use up_print::{Printed, cannot_use};
 use up_text::{Items, Text};
 
 /// How many folders may lie in one another below the first.
@@ -50,6 +52,16 @@ impl From<AllocError> for WalkError {
 
     fn from(_: AllocError) -> WalkError {
         WalkError::Memory
+    }
+}
+
+/// What is printed of a folder that isn't read.
+pub fn cannot_walk(alloc: Global, error: &WalkError) -> Result<Printed, AllocError>
+    ensures { IfOk result (λ made. (dir : List ℕ) → MayFail dir error.now → CannotWalk dir made) }
+{
+    match error {
+        WalkError::Unusable(path) => cannot_use(alloc, path.as_str()),
+        WalkError::Memory => Err(AllocError),
     }
 }
 

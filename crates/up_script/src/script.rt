@@ -8,14 +8,14 @@ ghost use Rattle.up_script.specs.Script.{left_after};
 ghost use Rattle.up_script.specs.ScriptInputs.{inputs_of_step};
 ghost use Rattle.up_script.specs.Statements.{is_text, begins_text, after_step, inputs_from, lines_inputs, step_inputs, script_inputs, unless_left, texts_in, IsNext, Fronts, ReachesNoFurther};
 
-use crate::bundle::{as_text, split_line};
+use crate::bundle::split_line;
 use crate::scripted::{ScriptInputs, StepInputs};
 use crate::words::inputs_of;
 use std::alloc::{AllocError, Global};
 use std::collections::VecDeque;
 use up_image::Table;
 use up_model::Input;
-use up_text::{Items, Lexer, Text, TextFault, without_comments};
+use up_text::{Items, Lexer, Text, TextFault, as_text, without_comments};
 
 // The bytes as a text, where they may stand in a script.
 #[tactic(auto, unfolding(crate::specs::Statements::is_text))]

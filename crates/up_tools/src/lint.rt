@@ -6,13 +6,12 @@ use std::alloc::{AllocError, Global};
 use std::io::Eprint;
 use std::rt::Files;
 use up_conf::{File, Folder, JobDef};
-use up_disk::WalkError;
-use up_disk::walk::walk;
+use up_disk::walk::{cannot_walk, walk};
 use up_image::Table;
 use up_lint::{Kind, push_lint};
 use up_model::ExitStatus;
+use up_print::Printed;
 use up_print::check::faults_and_compile;
-use up_print::{Printed, cannot_use};
 use up_text::{Items, Text};
 
 pub(crate) fn status_by(text: &[u8]) -> ExitStatus
@@ -87,7 +86,6 @@ pub fn lint_dir<R: Files + Eprint + AllocGlobal + Clone + Drop>(
 {
     match walk(rt, dir) {
         Ok(folder) => lint(rt.alloc(), &folder, left_out, outside),
-        Err(WalkError::Unusable(path)) => cannot_use(rt.alloc(), path.as_str()),
-        Err(WalkError::Memory) => Err(AllocError),
+        Err(error) => cannot_walk(rt.alloc(), &error),
     }
 }

@@ -11,9 +11,9 @@ use std::fs;
 use std::io::{Eprint, ErrorKind};
 use std::rt::Files;
 use up_conf::Folder;
-use up_disk::walk::walk;
+use up_disk::walk::{cannot_walk, walk};
 use up_disk::why::{say, say_error};
-use up_disk::{WalkError, read_file, show_image};
+use up_disk::{read_file, show_image};
 use up_model::ExitStatus;
 use up_print::{Printed, cannot_use};
 use up_script::bundle::MAX_BUNDLE;
@@ -84,8 +84,7 @@ fn view_dir<R: Files + Eprint + AllocGlobal + Clone + Drop>(
 {
     match walk(rt, dir) {
         Ok(folder) => view_walked(rt, view, &folder, log),
-        Err(WalkError::Unusable(path)) => cannot_use(rt.alloc(), path.as_str()),
-        Err(WalkError::Memory) => Err(AllocError),
+        Err(error) => cannot_walk(rt.alloc(), &error),
     }
 }
 
