@@ -17,12 +17,13 @@ use Rattle.up_daemon.specs.Counting.{orders_in, orders_given, ends_in, faults_af
 use Rattle.up_daemon.specs.Laws.{CountsCalls}
 use Rattle.up_edge.specs.declared.passed.Passed.{Passed}
 use Rattle.up_edge.specs.declared.passed.Passed.TheVariants as passed
-use Rattle.up_daemon.specs.Rounds.{Reaches, ran, ran_not, Opens, ReadsClock, ClockFails, FindsEnd, FindsNone, PollFails, LetsIn, NobodyWaits, AcceptFails, IsFull, PassesOver, FindsNothing, FindsBytes, FindsFault, FindsLast, ReadFails, Closes, ClosesUnrecorded, HasRead, Enters, HasServed, TakesTurn, HasTurned, NothingWaits, Writes, WriteFails, Starts, StartFails, Signals, SignalFails, PassesEvent, Replies}
-use Rattle.up_daemon.specs.RoundStates.{Part, ReadingClock, FindingEnds, LettingIn, ReadingFrom, TakingRequests, TakingTurns, WritingTo, ClosingOf, DaemonState, RoundState}
+use Rattle.up_daemon.specs.Rounds.{Reaches, ran, ran_not, Opens, Begins, HasBegun, ReadsClock, ClockFails, FindsEnd, FindsNone, PollFails, LetsIn, NobodyWaits, AcceptFails, IsFull, PassesOver, FindsNothing, FindsBytes, FindsFault, FindsLast, ReadFails, Closes, ClosesUnrecorded, HasRead, Enters, HasServed, TakesTurn, HasTurned, NothingWaits, Writes, WriteFails, Starts, StartFails, Signals, SignalFails, PassesEvent, Replies}
+use Rattle.up_daemon.specs.RoundStates.{Part, Beginning, ReadingClock, FindingEnds, LettingIn, ReadingFrom, TakingRequests, TakingTurns, WritingTo, ClosingOf, DaemonState, RoundState}
 use Rattle.up_daemon.proofs.Sourced.{sourced}
 
 -- how many calls were made but for ends and orders
 abbrev pub made_by : Part → ℕ
+made_by (Beginning first) = 0
 made_by ReadingClock = 0
 made_by FindingEnds = 1
 made_by LettingIn = 2
@@ -154,6 +155,12 @@ no_end next request given before after (inr (reloads, inr (is, failed))) = rw is
 pub counted : (config : Configuration) (c : Chronicle) (start : DaemonState) (part : Part) (state : RoundState)
     → Reaches config c start part state → Counted start (made_by part) state.host state.door state.fed state.gave state.left
 counted config c start part state Opens = record { host_made = omega arith; door_made = omega arith; failed = 0; faults = refl; calls = omega arith }
+counted config c start part state (Begins event later outputs was none is reaches) =
+    let so_far = counted config c start _ _ reaches in
+    feeds start 0 0 was.host was.door was.fed was.gave was.left (input.Emit event) outputs refl so_far
+counted config c start part state (HasBegun was none reaches) =
+    let so_far = counted config c start _ _ reaches in
+    so_far
 counted config c start part state (ReadsClock reading outputs was is reaches) =
     let so_far = counted config c start _ _ reaches in
     feeds start 1 _ _ was.door was.fed was.gave was.left (input.Clock reading) outputs refl (did start 0 was.host was.door was.fed was.gave was.left (happened.Now reading) so_far)

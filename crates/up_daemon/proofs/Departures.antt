@@ -15,12 +15,13 @@ use Rattle.up_daemon.specs.Laws.{ClosesForCause}
 use Rattle.up_daemon.specs.Peers.{Peer, newcomer, heard, answered, numbers_of, IsEntered, IsQueued}
 use Rattle.up_edge.specs.declared.passed.Passed.{Passed}
 use Rattle.up_edge.specs.declared.passed.Passed.TheVariants as passed
-use Rattle.up_daemon.specs.Rounds.{Reaches, Opens, ReadsClock, ClockFails, FindsEnd, FindsNone, PollFails, LetsIn, NobodyWaits, AcceptFails, IsFull, PassesOver, FindsNothing, FindsBytes, FindsFault, FindsLast, ReadFails, Closes, ClosesUnrecorded, HasRead, Enters, HasServed, TakesTurn, HasTurned, NothingWaits, Writes, WriteFails, Starts, StartFails, Signals, SignalFails, PassesEvent, Replies}
-use Rattle.up_daemon.specs.RoundStates.{Part, ReadingClock, FindingEnds, LettingIn, ReadingFrom, TakingRequests, TakingTurns, WritingTo, ClosingOf, HasOrders, DaemonState, RoundState}
+use Rattle.up_daemon.specs.Rounds.{Reaches, Opens, Begins, HasBegun, ReadsClock, ClockFails, FindsEnd, FindsNone, PollFails, LetsIn, NobodyWaits, AcceptFails, IsFull, PassesOver, FindsNothing, FindsBytes, FindsFault, FindsLast, ReadFails, Closes, ClosesUnrecorded, HasRead, Enters, HasServed, TakesTurn, HasTurned, NothingWaits, Writes, WriteFails, Starts, StartFails, Signals, SignalFails, PassesEvent, Replies}
+use Rattle.up_daemon.specs.RoundStates.{Part, Beginning, ReadingClock, FindingEnds, LettingIn, ReadingFrom, TakingRequests, TakingTurns, WritingTo, ClosingOf, HasOrders, DaemonState, RoundState}
 use Rattle.up_daemon.proofs.Connections.{count_append}
 
 -- what a part of a round still has to do: clients that are to be read or written to; that are to be read; and that are to be closed
 abbrev pub todo : Part → List Peer
+todo (Beginning first) = []
 todo ReadingClock = []
 todo FindingEnds = []
 todo LettingIn = []
@@ -31,6 +32,7 @@ todo (WritingTo unwritten) = unwritten
 todo (ClosingOf number part) = todo part
 
 abbrev pub to_read : List Peer → Part → List Peer
+to_read clients (Beginning first) = clients
 to_read clients ReadingClock = clients
 to_read clients FindingEnds = clients
 to_read clients LettingIn = clients
@@ -41,6 +43,7 @@ to_read clients (WritingTo unwritten) = []
 to_read clients (ClosingOf number part) = to_read clients part
 
 abbrev pub to_close : Part → List ℕ
+to_close (Beginning first) = []
 to_close ReadingClock = []
 to_close FindingEnds = []
 to_close LettingIn = []
@@ -52,6 +55,7 @@ to_close (ClosingOf number part) = number ∷ to_close part
 
 -- how many accepts may have failed
 abbrev pub most_missed : Part → ℕ
+most_missed (Beginning first) = 0
 most_missed ReadingClock = 0
 most_missed FindingEnds = 0
 most_missed LettingIn = 0
@@ -166,6 +170,7 @@ known_queued clients id answer old new (inr (same, none)) all = rw same all
 
 known_here : (clients : List Peer) (id : ℕ) (answer : Answer) (old new : List Peer) (part : Part) → HasOrders part → IsQueued id answer old new
     → AllByRecursion (IsKnown clients) (to_read old part) → AllByRecursion (IsKnown clients) (to_read new part)
+known_here clients id answer old new (Beginning first) here queued all = known_queued clients id answer old new queued all
 known_here clients id answer old new ReadingClock here queued all = absurd here
 known_here clients id answer old new FindingEnds here queued all = known_queued clients id answer old new queued all
 known_here clients id answer old new LettingIn here queued all = absurd here
@@ -399,6 +404,12 @@ gone config c start part state Opens = record {
   faults = refl;
   known = known_first start.clients start.clients (λ peer is. is);
 }
+gone config c start part state (Begins event later outputs was none is reaches) =
+    let so_far = gone config c start _ _ reaches in
+    so_far
+gone config c start part state (HasBegun was none reaches) =
+    let so_far = gone config c start _ _ reaches in
+    so_far
 gone config c start part state (ReadsClock reading outputs was is reaches) =
     let so_far = gone config c start _ _ reaches in
     so_far

@@ -8,7 +8,7 @@ use Rattle.up_model.specs.declared.loaded.Loaded.{Loaded}
 use Rattle.up_model.specs.Chronicle.{Chronicle}
 use Rattle.up_model.specs.Configuration.{Configuration}
 use Rattle.up_daemon.specs.Asking.{IsAsked}
-use Rattle.up_daemon.specs.Rounds.{Reaches, Opens, ReadsClock, ClockFails, FindsEnd, FindsNone, PollFails, LetsIn, NobodyWaits, AcceptFails, IsFull, PassesOver, FindsNothing, FindsBytes, FindsFault, FindsLast, ReadFails, Closes, ClosesUnrecorded, HasRead, Enters, HasServed, TakesTurn, HasTurned, NothingWaits, Writes, WriteFails, Starts, StartFails, Signals, SignalFails, PassesEvent, Replies}
+use Rattle.up_daemon.specs.Rounds.{Reaches, Opens, Begins, HasBegun, ReadsClock, ClockFails, FindsEnd, FindsNone, PollFails, LetsIn, NobodyWaits, AcceptFails, IsFull, PassesOver, FindsNothing, FindsBytes, FindsFault, FindsLast, ReadFails, Closes, ClosesUnrecorded, HasRead, Enters, HasServed, TakesTurn, HasTurned, NothingWaits, Writes, WriteFails, Starts, StartFails, Signals, SignalFails, PassesEvent, Replies}
 use Rattle.up_daemon.specs.RoundStates.{Part, DaemonState, RoundState}
 use Rattle.up_daemon.specs.Numbering.{AreNumbered}
 
@@ -36,6 +36,9 @@ asked_one next request given before after (inr (reloads, inr (is, failed))) = rw
 pub numbered : (config : Configuration) (c : Chronicle) (start : DaemonState) (part : Part) (state : RoundState)
     → Reaches config c start part state → AreNumbered start.next state.fed state.next
 numbered config c start part state Opens = refl
+numbered config c start part state (Begins event later outputs was none is reaches) =
+    one_more start.next was.next was.next was.fed (input.Emit event) refl (numbered config c start _ _ reaches)
+numbered config c start part state (HasBegun was none reaches) = numbered config c start _ _ reaches
 numbered config c start part state (ReadsClock reading outputs was is reaches) =
     one_more start.next was.next was.next was.fed (input.Clock reading) refl (numbered config c start _ _ reaches)
 numbered config c start part state (ClockFails was reaches) = numbered config c start _ _ reaches

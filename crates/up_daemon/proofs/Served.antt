@@ -21,13 +21,14 @@ use Rattle.up_edge.specs.declared.passed.Passed.{Passed}
 use Rattle.up_edge.specs.declared.passed.Passed.TheVariants as passed
 use Rattle.up_daemon.specs.Exchanges.{Exchange, Asked, Replied, open_after, frames_for, written_to, weight, weight_given, weight_replied, requests_in, requests_of, IsFedAs, AreFedAs, asked_by, IsQuiet, IsHeard, HearsNothing, HearsOther, Apart, AreApart, IsBelow, IsNumbered, IsAmong}
 use Rattle.up_daemon.specs.Laws.{IsServed, IsJust, LosesNothing}
-use Rattle.up_daemon.specs.Rounds.{Reaches, Opens, ReadsClock, ClockFails, FindsEnd, FindsNone, PollFails, LetsIn, NobodyWaits, AcceptFails, IsFull, PassesOver, FindsNothing, FindsBytes, FindsFault, FindsLast, ReadFails, Closes, ClosesUnrecorded, HasRead, Enters, HasServed, TakesTurn, HasTurned, NothingWaits, Writes, WriteFails, Starts, StartFails, Signals, SignalFails, PassesEvent, Replies}
-use Rattle.up_daemon.specs.RoundStates.{Part, ReadingClock, FindingEnds, LettingIn, ReadingFrom, TakingRequests, TakingTurns, WritingTo, ClosingOf, HasOrders, DaemonState, RoundState, HasItsClients}
+use Rattle.up_daemon.specs.Rounds.{Reaches, Opens, Begins, HasBegun, ReadsClock, ClockFails, FindsEnd, FindsNone, PollFails, LetsIn, NobodyWaits, AcceptFails, IsFull, PassesOver, FindsNothing, FindsBytes, FindsFault, FindsLast, ReadFails, Closes, ClosesUnrecorded, HasRead, Enters, HasServed, TakesTurn, HasTurned, NothingWaits, Writes, WriteFails, Starts, StartFails, Signals, SignalFails, PassesEvent, Replies}
+use Rattle.up_daemon.specs.RoundStates.{Part, Beginning, ReadingClock, FindingEnds, LettingIn, ReadingFrom, TakingRequests, TakingTurns, WritingTo, ClosingOf, HasOrders, DaemonState, RoundState, HasItsClients}
 use Rattle.up_daemon.proofs.Changes.{all_push, all_each, all_both, all_drop, apart_drop, all_change, all_put, apart_change, apart_push, all_init, apart_at, regroup}
 use Rattle.up_daemon.proofs.Servings.{silent, silent_served, other_written, self_written, other_asked, self_asked, other_replied, self_replied, self_heard, weight_append, weight_push}
 
 -- all clients of a part: those that are done with, and those that aren't
 abbrev pub all : List Peer → Part → List Peer
+all clients (Beginning first) = clients
 all clients ReadingClock = clients
 all clients FindingEnds = clients
 all clients LettingIn = clients
@@ -38,6 +39,7 @@ all clients (WritingTo unwritten) = clients ++ unwritten
 all clients (ClosingOf number part) = all clients part
 
 all_here : (clients : List Peer) (part : Part) → HasOrders part → all clients part ≡ clients
+all_here clients (Beginning first) here = refl
 all_here clients ReadingClock here = absurd here
 all_here clients FindingEnds here = refl
 all_here clients LettingIn here = absurd here
@@ -49,6 +51,7 @@ all_here clients (ClosingOf number part) here = absurd here
 
 -- clients are still let in, or are to be
 abbrev pub IsEarly : Part → Type 0
+IsEarly (Beginning first) = ⊤
 IsEarly ReadingClock = ⊤
 IsEarly FindingEnds = ⊤
 IsEarly LettingIn = ⊤
@@ -391,6 +394,12 @@ AreServed start part state = Stand start (IsEarly part) (all state.clients part)
 pub keeps : (config : Configuration) (c : Chronicle) (start : DaemonState) → IsNumbered start.clients start.next → HasItsClients start → (part : Part) (state : RoundState)
     → Reaches config c start part state → AreServed start part state
 keeps config c start numbered has part state Opens = begins start numbered
+keeps config c start numbered has part state (Begins event later outputs was none is reaches) =
+    let so_far = keeps config c start numbered has _ _ reaches in
+    gives start _ _ was.next _ was.left was.door.entries outputs (feeds start _ _ _ _ _ _ (input.Emit event) refl so_far)
+keeps config c start numbered has part state (HasBegun was none reaches) =
+    let so_far = keeps config c start numbered has _ _ reaches in
+    so_far
 keeps config c start numbered has part state (ReadsClock reading outputs was is reaches) =
     let so_far = keeps config c start numbered has _ _ reaches in
     moves start _ _ _ _ was.next _ _ was.door.entries (λ it. tt) refl (gives start _ _ was.next _ was.left was.door.entries outputs (feeds start _ _ _ _ _ _ (input.Clock reading) refl so_far))

@@ -11,7 +11,7 @@ use Rattle.up_model.specs.declared.loaded.Loaded.{Loaded}
 use Rattle.up_model.specs.declared.loaded.Loaded.TheVariants.{Unread}
 use Rattle.up_daemon.specs.Asking.{IsAsked}
 use Rattle.up_daemon.specs.Counting.{AreLoaded, faults_after}
-use Rattle.up_daemon.specs.Rounds.{Reaches, ran, ran_not, Opens, ReadsClock, ClockFails, FindsEnd, FindsNone, PollFails, LetsIn, NobodyWaits, AcceptFails, IsFull, PassesOver, FindsNothing, FindsBytes, FindsFault, FindsLast, ReadFails, Closes, ClosesUnrecorded, HasRead, Enters, HasServed, TakesTurn, HasTurned, NothingWaits, Writes, WriteFails, Starts, StartFails, Signals, SignalFails, PassesEvent, Replies}
+use Rattle.up_daemon.specs.Rounds.{Reaches, ran, ran_not, Opens, Begins, HasBegun, ReadsClock, ClockFails, FindsEnd, FindsNone, PollFails, LetsIn, NobodyWaits, AcceptFails, IsFull, PassesOver, FindsNothing, FindsBytes, FindsFault, FindsLast, ReadFails, Closes, ClosesUnrecorded, HasRead, Enters, HasServed, TakesTurn, HasTurned, NothingWaits, Writes, WriteFails, Starts, StartFails, Signals, SignalFails, PassesEvent, Replies}
 use Rattle.up_daemon.specs.RoundStates.{Part, DaemonState, RoundState}
 
 -- what the source did so far, and the loads that were fed
@@ -94,6 +94,10 @@ asks start before after fed id request given (inr (reloads, inr (is, failed))) s
 pub sourced : (config : Configuration) (c : Chronicle) (start : DaemonState) (part : Part) (state : RoundState)
     → Reaches config c start part state → Sourced start state.source state.fed
 sourced config c start part state Opens = record { made = omega arith; missed = 0; unread = refl; loads = (refl, refl) }
+sourced config c start part state (Begins event later outputs was none is reaches) =
+    let so_far = sourced config c start _ _ reaches in
+    feeds start was.source was.fed (input.Emit event) (refl, refl) so_far
+sourced config c start part state (HasBegun was none reaches) = sourced config c start _ _ reaches
 sourced config c start part state (ReadsClock reading outputs was is reaches) =
     let so_far = sourced config c start _ _ reaches in
     feeds start was.source was.fed (input.Clock reading) (refl, refl) so_far

@@ -9,7 +9,7 @@ use Rattle.up_model.specs.Chronicle.{Chronicle}
 use Rattle.up_model.specs.Configuration.{Configuration}
 use Rattle.up_engine.proofs.RunLemmas.{answers_push}
 use Rattle.up_daemon.specs.Answering.{outputs_in}
-use Rattle.up_daemon.specs.Rounds.{Reaches, ran, ran_not, Opens, ReadsClock, ClockFails, FindsEnd, FindsNone, PollFails, LetsIn, NobodyWaits, AcceptFails, IsFull, PassesOver, FindsNothing, FindsBytes, FindsFault, FindsLast, ReadFails, Closes, ClosesUnrecorded, HasRead, Enters, HasServed, TakesTurn, HasTurned, NothingWaits, Writes, WriteFails, Starts, StartFails, Signals, SignalFails, PassesEvent, Replies}
+use Rattle.up_daemon.specs.Rounds.{Reaches, ran, ran_not, Opens, Begins, HasBegun, ReadsClock, ClockFails, FindsEnd, FindsNone, PollFails, LetsIn, NobodyWaits, AcceptFails, IsFull, PassesOver, FindsNothing, FindsBytes, FindsFault, FindsLast, ReadFails, Closes, ClosesUnrecorded, HasRead, Enters, HasServed, TakesTurn, HasTurned, NothingWaits, Writes, WriteFails, Starts, StartFails, Signals, SignalFails, PassesEvent, Replies}
 use Rattle.up_daemon.specs.RoundStates.{Part, DaemonState, RoundState}
 
 -- one input more
@@ -24,6 +24,10 @@ pub gave_answers : (config : Configuration) (c : Chronicle) (start : DaemonState
     → Reaches config c start part state → state.gave ≡ map outputs_in (answers config c state.fed)
 unfolding answers
 gave_answers config c start part state Opens = refl
+gave_answers config c start part state (Begins event later outputs was none is reaches) =
+    let so_far = gave_answers config c start _ _ reaches in
+    gave_more config c was.fed was.gave (input.Emit event) outputs is so_far
+gave_answers config c start part state (HasBegun was none reaches) = gave_answers config c start _ _ reaches
 gave_answers config c start part state (ReadsClock reading outputs was is reaches) =
     let so_far = gave_answers config c start _ _ reaches in
     gave_more config c was.fed was.gave (input.Clock reading) outputs is so_far

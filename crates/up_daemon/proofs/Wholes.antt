@@ -5,8 +5,8 @@ use Rattle.up_model.specs.declared.request.Answer.{Answer}
 use Rattle.up_model.specs.Chronicle.{Chronicle}
 use Rattle.up_model.specs.Configuration.{Configuration}
 use Rattle.up_daemon.specs.Peers.{Peer, IsEntered, IsQueued}
-use Rattle.up_daemon.specs.Rounds.{Reaches, Opens, ReadsClock, ClockFails, FindsEnd, FindsNone, PollFails, LetsIn, NobodyWaits, AcceptFails, IsFull, PassesOver, FindsNothing, FindsBytes, FindsFault, FindsLast, ReadFails, Closes, ClosesUnrecorded, HasRead, Enters, HasServed, TakesTurn, HasTurned, NothingWaits, Writes, WriteFails, Starts, StartFails, Signals, SignalFails, PassesEvent, Replies}
-use Rattle.up_daemon.specs.RoundStates.{Part, ReadingClock, FindingEnds, LettingIn, ReadingFrom, TakingRequests, TakingTurns, WritingTo, ClosingOf, DaemonState, RoundState}
+use Rattle.up_daemon.specs.Rounds.{Reaches, Opens, Begins, HasBegun, ReadsClock, ClockFails, FindsEnd, FindsNone, PollFails, LetsIn, NobodyWaits, AcceptFails, IsFull, PassesOver, FindsNothing, FindsBytes, FindsFault, FindsLast, ReadFails, Closes, ClosesUnrecorded, HasRead, Enters, HasServed, TakesTurn, HasTurned, NothingWaits, Writes, WriteFails, Starts, StartFails, Signals, SignalFails, PassesEvent, Replies}
+use Rattle.up_daemon.specs.RoundStates.{Part, Beginning, ReadingClock, FindingEnds, LettingIn, ReadingFrom, TakingRequests, TakingTurns, WritingTo, ClosingOf, DaemonState, RoundState}
 use Rattle.up_daemon.specs.Wholeness.{IsWhole, AreWhole}
 
 push : (peers : List Peer) (peer : Peer) → AreWhole peers → IsWhole peer → AreWhole (peers ++ peer ∷ [])
@@ -28,6 +28,7 @@ queued_whole id answer old new (inr (same, none)) whole = rw same whole
 
 -- those that are still to be read or written to
 abbrev pub todo : Part → List Peer
+todo (Beginning first) = []
 todo ReadingClock = []
 todo FindingEnds = []
 todo LettingIn = []
@@ -41,6 +42,12 @@ todo (ClosingOf number part) = todo part
 pub whole : (config : Configuration) (c : Chronicle) (start : DaemonState) (part : Part) (state : RoundState) → AreWhole start.clients
     → Reaches config c start part state → AreWhole state.clients × AreWhole (todo part)
 whole config c start part state all Opens = (all, tt)
+whole config c start part state all (Begins event later outputs was none is reaches) =
+    let so_far = whole config c start _ _ all reaches in
+    so_far
+whole config c start part state all (HasBegun was none reaches) =
+    let so_far = whole config c start _ _ all reaches in
+    so_far
 whole config c start part state all (ReadsClock reading outputs was is reaches) =
     let so_far = whole config c start _ _ all reaches in
     so_far

@@ -2,6 +2,7 @@
 use Rattle.std.specs.Prelude.{⊤, ℕ, Bool, List, [], ◌∷◌, ◌++◌}
 use Rattle.up_edge.specs.Calls.{Calls, with_entry, with_failure, emptied}
 use Rattle.up_edge.specs.declared.happened.Happened.{Happened}
+use Rattle.up_model.specs.declared.event.Event.{Event}
 use Rattle.up_model.specs.declared.input.Input.{Input}
 use Rattle.up_model.specs.declared.loaded.Loaded.{Loaded}
 use Rattle.up_model.specs.declared.output.Output.{Output}
@@ -9,9 +10,11 @@ use Rattle.up_daemon.specs.Connected.{AreConnected}
 use Rattle.up_daemon.specs.Peers.{Peer, numbers_of}
 use Rattle.up_edge.specs.declared.passed.Passed.{Passed}
 
--- The part of a round: the clock is to be read; ends are looked for; clients are let in; these are still to be read; requests enter; the
--- queue of events has turned so many times; these are still to be written to. Or the client with this number is to be closed first.
+-- The part of a round: these events, with which the daemon begins, are still to be fed; the clock is to be read; ends are looked for;
+-- clients are let in; these are still to be read; requests enter; the queue of events has turned so many times; these are still to be
+-- written to. Or the client with this number is to be closed first.
 pub data Part : Type 0 where
+  Beginning : (first : List Event) → Part
   ReadingClock : Part
   FindingEnds : Part
   LettingIn : Part
@@ -23,6 +26,7 @@ pub data Part : Type 0 where
 
 -- orders are carried out in this part: no client is missing in it
 abbrev pub HasOrders : Part → Type 0
+HasOrders (Beginning first) = ⊤
 HasOrders ReadingClock = ⊥
 HasOrders FindingEnds = ⊤
 HasOrders LettingIn = ⊥
@@ -32,11 +36,12 @@ HasOrders (TakingTurns turns) = ⊤
 HasOrders (WritingTo unwritten) = ⊥
 HasOrders (ClosingOf number part) = ⊥
 
--- what a round begins with, and ends with: the clients, the number of the next request, the calls of host, door and source, and which
--- clients the door has
+-- what a round begins with, and ends with: the clients, the number of the next request, the events that the next round feeds first, the
+-- calls of host, door and source, and which clients the door has
 pub record DaemonState : Type 0 where
   pub clients : List Peer
   pub next : ℕ
+  pub first : List Event
   pub host : Calls Happened
   pub door : Calls Passed
   pub source : Calls Loaded

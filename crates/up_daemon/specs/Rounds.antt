@@ -26,7 +26,7 @@ use Rattle.up_daemon.specs.Asking.{IsAsked}
 use Rattle.up_daemon.specs.Answering.{outputs_in}
 use Rattle.up_daemon.specs.Hearing.{most_waiting, IsPiece, IsBroken}
 use Rattle.up_daemon.specs.Peers.{Peer, newcomer, heard, IsAtRest, IsEntered, IsQueued, IsNobody, last_number}
-use Rattle.up_daemon.specs.RoundStates.{Part, ReadingClock, FindingEnds, LettingIn, ReadingFrom, TakingRequests, TakingTurns, WritingTo, ClosingOf, HasOrders, DaemonState, HasItsClients, RoundState, opened, closed, with_input, host_did, host_failed, door_did, door_failed, with_left, with_clients, with_last}
+use Rattle.up_daemon.specs.RoundStates.{Part, Beginning, ReadingClock, FindingEnds, LettingIn, ReadingFrom, TakingRequests, TakingTurns, WritingTo, ClosingOf, HasOrders, DaemonState, HasItsClients, RoundState, opened, closed, with_input, host_did, host_failed, door_did, door_failed, with_left, with_clients, with_last}
 use Rattle.up_daemon.specs.Visits.{most_clients}
 use Rattle.up_edge.specs.declared.passed.Passed.TheVariants as passed
 
@@ -43,7 +43,14 @@ ran_not order = input.Refused order.who order.process
 
 -- A round that began so, by an engine that stood for this chronicle, comes to this part and state.
 pub data Reaches (config : Configuration) (c : Chronicle) (start : DaemonState) : Part → RoundState → Type 0 where
-  Opens : Reaches config c start ReadingClock (opened start)
+  Opens : Reaches config c start (Beginning start.first) (opened start)
+  -- the events with which a daemon begins are fed first, each once all that came of the one before is done
+  Begins : (event : Event) → (later : List Event) → (outputs : List Output) → (state : RoundState) → state.left ≡ []
+      → outputs ≡ outputs_in (answer config (after_all config c state.fed) (input.Emit event))
+      → Reaches config c start (Beginning (event ∷ later)) state
+      → Reaches config c start (Beginning later) (with_input (input.Emit event) outputs state)
+  HasBegun : (state : RoundState) → state.left ≡ [] → Reaches config c start (Beginning []) state
+      → Reaches config c start ReadingClock state
   -- the clock is read once; a reading that fails is left for the next round
   ReadsClock : (reading : ℕ) → (outputs : List Output) → (state : RoundState)
       → outputs ≡ outputs_in (answer config (after_all config c state.fed) (input.Clock reading))

@@ -17,24 +17,28 @@ use std::alloc::{AllocError, Global};
 use std::mem;
 use up_edge::{Door, Host, Source};
 use up_engine::Engine;
+use up_model::Event;
 
 /// An engine between a host, a door and a source of configurations, which works in rounds.
 #[derive(Drop)]
 pub struct Daemon {
     work: Work,
+    // the events that the next round feeds first
+    first: Vec<Event>,
     // an earlier round was refused
     refused: bool,
 }
 
-// The parts of a round, in order.
+// The parts of a round, in order, with the events that are fed first.
 fn do_parts<H: Host, D: Door, S: Source>(
     work: &mut Work,
+    first: Vec<Event>,
     host: &mut H,
     door: &mut D,
     source: &mut S,
 ) -> Result<(), AllocError>
     ensures round { OnOk result ((config : Configuration) (c : Chronicle) (start : DaemonState)
-        → Stands work.old.engine config c → (start.connected ≡ D.connected door.old)
+        → Stands work.old.engine config c → (start.connected ≡ D.connected door.old) → (start.first ≡ first.items)
         → (state_of work.old (emptied (H.calls host.old)) (emptied (D.calls door.old))
         (emptied (S.calls source.old)) [] ≡ opened start)
         → IsAt config c start (WritingTo []) work.new.engine
@@ -45,6 +49,7 @@ fn do_parts<H: Host, D: Door, S: Source>(
     host.clear_record();
     door.clear_record();
     source.clear_record();
+    work.begin(host, first)?;
     work.read_clock(host)?;
     work.find_ends(host)?;
     work.hear(door)?;
@@ -55,7 +60,7 @@ fn do_parts<H: Host, D: Door, S: Source>(
 }
 
 impl Daemon {
-    ghost use Rattle.up_daemon.specs.Daemons.{engine_of, clients_of, next_of, daemon_state, was_refused};
+    ghost use Rattle.up_daemon.specs.Daemons.{engine_of, clients_of, next_of, first_of, daemon_state, was_refused};
     ghost use Rattle.up_daemon.specs.Answering.{Told};
     ghost use Rattle.up_daemon.specs.Peers.{one_waits};
 
@@ -65,6 +70,18 @@ impl Daemon {
         ensures refused { was_refused result ≡ false }
         ensures clients { clients_of result ≡ [] }
         ensures next { next_of result ≡ 1 }
+        ensures first { first_of result ≡ [] }
+    {
+        Daemon::begin(alloc, engine, Vec::new(alloc))
+    }
+
+    /// A daemon without clients, over this engine as it is. Its first round begins with these events.
+    pub fn begin(alloc: Global, engine: Engine, first: Vec<Event>) -> Self
+        ensures engine { engine_of result ≡ engine }
+        ensures refused { was_refused result ≡ false }
+        ensures clients { clients_of result ≡ [] }
+        ensures next { next_of result ≡ 1 }
+        ensures first { first_of result ≡ first.items }
     {
         Daemon {
             work: Work {
@@ -74,6 +91,7 @@ impl Daemon {
                 next: 1,
                 log: Log::new(alloc),
             },
+            first,
             refused: false,
         }
     }
@@ -85,9 +103,10 @@ impl Daemon {
         self.work.clients.waits(client)
     }
 
-    /// One round: reads the clock, looks for ends, lets clients in, reads each once, lets their requests enter, turns the queue of
-    /// events, and writes once to each client for whom bytes wait. The orders of each step are carried out at once. For a request to
-    /// reload the configuration the source is called once, and what it gives is loaded. It waits for nobody.
+    /// One round: feeds the events with which the daemon begins, if it is the first; reads the clock, looks for ends, lets clients in, reads
+    /// each once, lets their requests enter, turns the queue of events, and writes once to each client for whom bytes wait. The orders of
+    /// each step are carried out at once. For a request to reload the configuration the source is called once, and what it gives is loaded.
+    /// It waits for nobody.
     /// Refused with `Down` if the engine is down or an earlier round was refused, and with `Memory`, after which what it did stands.
     pub fn round<H: Host, D: Door, S: Source>(
         &mut self,
@@ -108,6 +127,7 @@ impl Daemon {
             HasItsClients (daemon_state self.old (H.calls host.old) (D.calls door.old) (S.calls source.old) (D.connected door.old))
             → HasItsClients
             (daemon_state self.new (H.calls host.new) (D.calls door.new) (S.calls source.new) (D.connected door.new))) }
+        ensures begun { OnOk result (first_of self.new ≡ []) }
         ensures remembers { OnErr result (was_refused self.new ≡ true) }
         ensures goes_on { OnOk result ((was_refused self.old ≡ false) × (was_refused self.new ≡ false)) }
         ensures refused { was_refused self.old ≡ true → result ≡ Err DaemonError.Down }
@@ -123,7 +143,8 @@ impl Daemon {
         }
         self.refused = true;
         self.work.log = Log::new(self.work.alloc);
-        do_parts(&mut self.work, host, door, source)?;
+        let first = mem::replace(&mut self.first, Vec::new(self.work.alloc));
+        do_parts(&mut self.work, first, host, door, source)?;
         self.refused = false;
         let log = mem::replace(&mut self.work.log, Log::new(self.work.alloc));
         Ok(log.into_round())

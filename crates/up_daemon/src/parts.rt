@@ -5,7 +5,7 @@ ghost use Rattle.up_daemon.specs.Connected.{AreConnected};
 ghost use Rattle.up_edge.specs.declared.passed.Passed.{Passed};
 ghost use Rattle.up_daemon.specs.Peers.{peers_of};
 ghost use Rattle.up_daemon.specs.Rounds.{Reaches};
-ghost use Rattle.up_daemon.specs.RoundStates.{ReadingClock, FindingEnds, LettingIn, TakingRequests, TakingTurns, WritingTo, DaemonState, HasItsClients, with_clients};
+ghost use Rattle.up_daemon.specs.RoundStates.{Beginning, ReadingClock, FindingEnds, LettingIn, TakingRequests, TakingTurns, WritingTo, DaemonState, HasItsClients, with_clients};
 ghost use Rattle.up_daemon.specs.Working.{part_after, IsAt, Leads};
 ghost use Rattle.up_edge.specs.Calls.{Calls};
 ghost use Rattle.up_edge.specs.declared.happened.Happened.{Happened};
@@ -16,7 +16,7 @@ ghost use Rattle.up_model.specs.declared.loaded.Loaded.{Loaded};
 use crate::work::Work;
 use std::alloc::AllocError;
 use up_edge::{Door, Host, Source};
-use up_model::{Command, Input, Loaded, Request};
+use up_model::{Command, Event, Input, Loaded, Request};
 
 /// The most turns of a round.
 const MOST_TURNS: u32 = 256;
@@ -41,6 +41,21 @@ fn input_of<S: Source>(source: &mut S, id: u64, request: Request) -> Input
 impl Work {
     ghost use Rattle.up_daemon.specs.Ending.{ends_left, waiting_of};
     ghost use Rattle.up_daemon.specs.Working.{Goes, IsUntouched, NoneEnters, state_of, numbers_in};
+
+    /// Feeds the events with which the daemon begins, one after another.
+    pub(crate) fn begin<H: Host>(
+        &mut self,
+        host: &mut H,
+        first: Vec<Event>,
+    ) -> Result<(), AllocError>
+        ensures goes { OnOk result (Goes (Beginning first.items) self.old (H.calls host.old) ReadingClock self.new (H.calls host.new)) }
+        ensures numbers { OnOk result (numbers_in self.new ≡ numbers_in self.old) }
+    {
+        for event in first {
+            self.take(host, Input::Emit(event))?;
+        }
+        Ok(())
+    }
 
     /// Reads the clock once. A reading that fails is left for the next round.
     pub(crate) fn read_clock<H: Host>(&mut self, host: &mut H) -> Result<(), AllocError>

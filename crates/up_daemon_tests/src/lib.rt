@@ -2,6 +2,8 @@
 #![tactic(auto)]
 
 #[cfg(test)]
+mod beginning;
+#[cfg(test)]
 mod clients;
 #[cfg(test)]
 mod doors;

@@ -47,11 +47,17 @@ fn engine(alloc: Global, file: &str) -> Result<Engine, Fail> {
     Ok(Engine::new(alloc, table, Env::new(alloc))?)
 }
 
-// The event `go` happens.
-fn emit_go(alloc: Global, engine: &mut Engine) -> Result<(), Fail> {
+// The event `go`.
+fn go(alloc: Global) -> Result<Event, Fail> {
     let name = Name::new(alloc, "go")?;
     let vars = Env::new(alloc);
-    let outputs = engine.step(Input::Emit(Event { name, vars }))?;
+    Ok(Event { name, vars })
+}
+
+// The event `go` happens.
+fn emit_go(alloc: Global, engine: &mut Engine) -> Result<(), Fail> {
+    let event = go(alloc)?;
+    let outputs = engine.step(Input::Emit(event))?;
     drop(outputs);
     Ok(())
 }
@@ -66,6 +72,26 @@ fn daemon(alloc: Global) -> Result<Daemon, Fail> {
     let mut engine = engine(alloc, ON_GO)?;
     match emit_go(alloc, &mut engine) {
         Ok(()) => Ok(Daemon::new(alloc, engine)),
+        Err(fail) => {
+            drop(engine);
+            Err(fail)
+        }
+    }
+}
+
+// The event `go` alone.
+fn one_go(alloc: Global) -> Result<Vec<Event>, Fail> {
+    let event = go(alloc)?;
+    let mut events: Vec<Event> = Vec::new(alloc);
+    events.push(event)?;
+    Ok(events)
+}
+
+// A daemon of the job, which begins with the event `go`.
+fn beginning_daemon(alloc: Global) -> Result<Daemon, Fail> {
+    let engine = engine(alloc, ON_GO)?;
+    match one_go(alloc) {
+        Ok(first) => Ok(Daemon::begin(alloc, engine, first)),
         Err(fail) => {
             drop(engine);
             Err(fail)
@@ -135,6 +161,17 @@ pub(crate) fn make_idle_scene(
 ) -> Result<Scene, Fail> {
     match both(host, door) {
         Ok((host, door)) => scene_of(alloc, idle_daemon(alloc, file), host, door),
+        Err(refused) => Err(Fail::from(refused)),
+    }
+}
+
+/// A daemon of the job, which begins with `go`, with this host, to which nobody comes.
+pub(crate) fn make_beginning_scene(
+    alloc: Global,
+    host: Result<ScriptHost, AllocError>,
+) -> Result<Scene, Fail> {
+    match host {
+        Ok(host) => scene_of(alloc, beginning_daemon(alloc), host, no_door(alloc)),
         Err(refused) => Err(Fail::from(refused)),
     }
 }

@@ -4,13 +4,11 @@ use Rattle.up_conf.specs.declared.folder.File.{File}
 use Rattle.up_conf.specs.declared.job.JobDef.{JobDef}
 use Rattle.up_image.specs.Reading.{HasTable}
 use Rattle.up_model.specs.declared.exit_status.ExitStatus.TheVariants.{Done}
-use Rattle.up_model.specs.declared.input.Input.{Input}
-use Rattle.up_model.specs.declared.input.Input.TheVariants.{Emit}
-use Rattle.up_model.specs.Answers.{after_all}
 use Rattle.up_model.specs.Configuration.{Configuration, started_with}
+use Rattle.up_model.specs.declared.event.Event.{Event}
 use Rattle.up_engine.specs.Stands.{Stands}
 use Rattle.up_daemon.specs.declared.daemon.Daemon.{Daemon}
-use Rattle.up_daemon.specs.Daemons.{engine_of, clients_of, was_refused}
+use Rattle.up_daemon.specs.Daemons.{engine_of, clients_of, first_of, was_refused}
 use Rattle.up_print.specs.Folders.{prints, IsTable, PrintsFaults}
 use Rattle.up_disk.specs.Disk.{CannotWalk, IsRefusedFile, IsRefusedImage, IsUnusable}
 use Rattle.up_disk.specs.Walk.{IsWalked}
@@ -55,12 +53,13 @@ run_base = (codes "PATH", codes "/usr/sbin:/usr/bin:/sbin:/bin") ∷ []
 abbrev pub run_of : List JobDef → Configuration
 run_of jobs = started_with run_base jobs
 
--- the first input of a run: the event `startup` (startup(7))
-abbrev pub first_inputs : List Input
-first_inputs = Emit (record { name = codes "startup"; vars = [] }) ∷ []
+-- the first event of a run: `startup` (startup(7))
+abbrev pub first_events : List Event
+first_events = record { name = codes "startup"; vars = [] } ∷ []
 
--- a daemon that no client has asked yet, whose engine has taken the first inputs of a run
+-- a daemon that no client has asked yet, whose engine has taken nothing, and whose first round begins with the first events of a run
 pub record Begins (jobs : List JobDef) (daemon : Daemon) : Type 0 where
-  pub engine : Stands (engine_of daemon) (run_of jobs) (after_all (run_of jobs) [] first_inputs)
+  pub engine : Stands (engine_of daemon) (run_of jobs) []
+  pub first : first_of daemon ≡ first_events
   pub up : was_refused daemon ≡ false
   pub clients : clients_of daemon ≡ []

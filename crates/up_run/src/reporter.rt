@@ -104,8 +104,8 @@ impl<'a, W: Read + Write + OpenFile + Drop> Reporter<'a, W> {
         }
     }
 
-    /// Records inputs, which may have been idle.
-    pub(crate) fn note<R: Files<File = W> + Eprint>(
+    // Records the inputs of a round, which may have been idle.
+    fn note<R: Files<File = W> + Eprint>(
         &mut self,
         rt: &R,
         alloc: Global,

@@ -1,12 +1,8 @@
 //! Runs jobs: their processes are real, and clients ask at a socket.
 
-ghost use Rattle.std.specs.Prelude.{◌≡◌, false, IfOk, OnOk, []};
-ghost use Rattle.up_daemon.specs.Daemons.{clients_of, engine_of, was_refused};
+ghost use Rattle.std.specs.Prelude.{◌≡◌, IfOk, []};
 ghost use Rattle.up_engine.specs.Stands.{Stands};
-ghost use Rattle.up_model.specs.Answers.{after_all};
-ghost use Rattle.up_model.specs.Chronicle.{Chronicle};
-ghost use Rattle.up_model.specs.Configuration.{Configuration};
-ghost use Rattle.up_run.specs.Starts.{Begins, first_inputs, run_base, run_of};
+ghost use Rattle.up_run.specs.Starts.{Begins, first_events, run_base, run_of};
 
 use crate::failures::say_failures;
 use crate::faults::host_faults;
@@ -35,7 +31,7 @@ use up_disk::why::say_error;
 use up_edge::{Door, Host, RealHost, SocketFault, Source, UnixDoor};
 use up_engine::Engine;
 use up_image::Table;
-use up_model::{Event, ExitStatus, Input};
+use up_model::{Event, ExitStatus};
 use up_print::cannot_use;
 use up_text::{Env, Name};
 
@@ -73,17 +69,17 @@ fn run_environment(alloc: Global) -> Result<Env, AllocError>
     }
 }
 
-// The inputs with which a run begins: one event (startup(7)).
-fn first_inputs(alloc: Global) -> Result<Vec<Input>, AllocError>
-    ensures { IfOk result (λ inputs. inputs.items ≡ first_inputs) }
+// The events with which a run begins: one (startup(7)).
+fn first_events(alloc: Global) -> Result<Vec<Event>, AllocError>
+    ensures { IfOk result (λ events. events.items ≡ first_events) }
 {
     let Ok(name) = Name::new(alloc, "startup") else {
         return Err(AllocError);
     };
     let vars = Env::new(alloc);
-    let mut inputs: Vec<Input> = Vec::new(alloc);
-    inputs.push(Input::Emit(Event { name, vars }))?;
-    Ok(inputs)
+    let mut events: Vec<Event> = Vec::new(alloc);
+    events.push(Event { name, vars })?;
+    Ok(events)
 }
 
 fn engine_over(alloc: Global, table: Table) -> Result<Engine, AllocError>
@@ -98,31 +94,13 @@ fn engine_over(alloc: Global, table: Table) -> Result<Engine, AllocError>
     }
 }
 
-// The engine is fed its first inputs. What its run gave has no reader yet.
-fn feed(engine: &mut Engine, inputs: Vec<Input>) -> Result<(), AllocError>
-    ensures { OnOk result ((config : Configuration) (c : Chronicle) → Stands engine.old config c
-        → Stands engine.new config (after_all config c inputs.items)) }
+// The daemon of a run: over these jobs, with the events that its first round feeds.
+fn first_daemon(alloc: Global, table: Table) -> Result<Daemon, AllocError>
+    ensures { IfOk result (Begins table) }
 {
-    let Ok(run) = engine.run(inputs) else {
-        return Err(AllocError);
-    };
-    let down = run.down;
-    drop(run);
-    if down { Err(AllocError) } else { Ok(()) }
-}
-
-// A daemon over these jobs, whose engine was fed these inputs.
-fn start_daemon(alloc: Global, table: Table, inputs: Vec<Input>) -> Result<Daemon, AllocError>
-    ensures engine { IfOk result (λ daemon. Stands (engine_of daemon) (run_of table)
-        (after_all (run_of table) [] inputs.items)) }
-    ensures fresh { IfOk result (λ daemon. (was_refused daemon ≡ false) × (clients_of daemon ≡ [])) }
-{
-    let Ok(mut engine) = engine_over(alloc, table) else {
-        drop(inputs);
-        return Err(AllocError);
-    };
-    match feed(&mut engine, inputs) {
-        Ok(()) => Ok(Daemon::new(alloc, engine)),
+    let engine = engine_over(alloc, table)?;
+    match first_events(alloc) {
+        Ok(first) => Ok(Daemon::begin(alloc, engine, first)),
         Err(refused) => {
             drop(engine);
             Err(refused)
@@ -202,26 +180,6 @@ fn unusable(rt: &(impl Print + AllocGlobal), path: &str) -> io::Result<ExitStatu
     print(rt, cannot_use(rt.alloc(), path))
 }
 
-// A daemon over jobs, with the first inputs in the record.
-fn first_daemon<R: Files<File = W> + Eprint + AllocGlobal, W: Read + Write + OpenFile + Drop>(
-    rt: &R,
-    table: Table,
-    reporter: &mut Reporter<'_, W>,
-) -> Result<Daemon, AllocError>
-    ensures { IfOk result (Begins table) }
-{
-    match first_inputs(rt.alloc()) {
-        Ok(inputs) => {
-            reporter.note(rt, rt.alloc(), inputs.as_slice(), false);
-            start_daemon(rt.alloc(), table, inputs)
-        }
-        Err(refused) => {
-            drop(table);
-            Err(refused)
-        }
-    }
-}
-
 // The rounds of a daemon with the system's processes, and the status.
 fn serve_with<
     R: Files<File = W> + Processes + Clock + Print + Eprint + AllocGlobal + Clone + Drop,
@@ -271,7 +229,7 @@ fn serve<
     (rounds, quiet): (Rounds, bool),
     reporter: &mut Reporter<'_, W>,
 ) -> io::Result<ExitStatus> {
-    let mut daemon = first_daemon(rt, table, reporter)?;
+    let mut daemon = first_daemon(rt.alloc(), table)?;
     let served = serve_with(rt, &mut daemon, (door, source), (rounds, quiet), reporter);
     drop(daemon);
     served
