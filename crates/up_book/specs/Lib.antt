@@ -14,3 +14,5 @@ pub mod Sending
 pub mod Hearers
 -- Which places of the chronicle the keys of a book stand for.
 pub mod Keys
+-- What is said of each history for which a book stands.
+pub mod Histories

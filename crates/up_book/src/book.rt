@@ -3,9 +3,10 @@ ghost use Rattle.std.specs.Prelude.{◌≡◌, ◌≤◌, ◌<◌, ℕ, true, fa
 ghost use Rattle.std.specs.Option.{option_copied, option_map_or};
 ghost use Rattle.up_book.specs.declared.holders.Holders.{Holders as HoldersValue};
 ghost use Rattle.up_book.specs.Hearers.{IsNextHearer};
+ghost use Rattle.up_book.specs.Histories.{HoldersAt, KeepsPlaces, OfEvent, OfInstance, OfWhole, after_leaving, start_events, stop_events};
 ghost use Rattle.up_model.specs.Predicates.{is_waiting};
 ghost use Rattle.up_book.specs.Keeps.{AreDistinct};
-ghost use Rattle.up_book.specs.Keys.{Mode, Resting, Stepping, SpeaksOf, held_as, request_place, job_at, name_at, instance_at, instance_place, given_place, called};
+ghost use Rattle.up_book.specs.Keys.{Mode, Resting, Stepping, SpeaksOf, held_as, request_place, job_at, name_at, instance_place, given_place, called};
 ghost use Rattle.up_book.specs.Turning.{turn_at};
 ghost use Rattle.up_book.specs.Unblocking.{IsBlockedBy};
 ghost use Rattle.up_conf.specs.declared.job.JobDef.{JobDef as JobValue};
@@ -26,7 +27,7 @@ ghost use Rattle.up_model.specs.Environments.{env_of_job};
 ghost use Rattle.up_model.specs.Due.{turn_event, telling};
 ghost use Rattle.up_model.specs.Files.{names_in_order};
 ghost use Rattle.up_model.specs.Held as held;
-ghost use Rattle.up_model.specs.Instances.{Instance, instances_of, instance_named};
+ghost use Rattle.up_model.specs.Instances.{instances_of, instance_named};
 ghost use Rattle.up_model.specs.Outputs.{outputs_of};
 ghost use Rattle.up_model.specs.Queue as queue;
 ghost use Rattle.up_model.specs.Readings as read;
@@ -57,26 +58,22 @@ pub trait Book: Drop {
     ghost event_place: { Self → Chronicle → EventIdValue → Option ℕ };
 
     fn goal(&self, key: InstanceKey) -> Goal
-        ensures { (mode : Mode) (config : Configuration) (c : Chronicle) (i : ℕ)
-            → stands self.now mode config c
-            → instance_place config c key ≡ Some i → result ≡ read.goal i c };
+        ensures { (mode : Mode) (config : Configuration) → OfInstance (stands self.now mode) config key (λ c i.
+            result ≡ read.goal i c) };
 
     fn state_of(&self, key: InstanceKey) -> State
-        ensures { (mode : Mode) (config : Configuration) (c : Chronicle) (i : ℕ)
-            → stands self.now mode config c
-            → instance_place config c key ≡ Some i → result ≡ read.state_of i c };
+        ensures { (mode : Mode) (config : Configuration) → OfInstance (stands self.now mode) config key (λ c i.
+            result ≡ read.state_of i c) };
 
     /// Whether a restart of an instance was taken since it entered its state.
     fn was_restarted(&self, key: InstanceKey) -> bool
-        ensures { (mode : Mode) (config : Configuration) (c : Chronicle) (i : ℕ)
-            → stands self.now mode config c
-            → instance_place config c key ≡ Some i → result ≡ read.was_restarted i c };
+        ensures { (mode : Mode) (config : Configuration) → OfInstance (stands self.now mode) config key (λ c i.
+            result ≡ read.was_restarted i c) };
 
     /// What clients read of an instance.
     fn status_of(&self, key: InstanceKey) -> Result<Text, AllocError>
-        ensures { IfOk result (λ text. (mode : Mode) (config : Configuration) (c : Chronicle) (i : ℕ)
-            → stands self.now mode config c
-            → instance_place config c key ≡ Some i → text ≡ replies.status_of i c) };
+        ensures { IfOk result (λ text. (mode : Mode) (config : Configuration)
+            → OfInstance (stands self.now mode) config key (λ c i. text ≡ replies.status_of i c)) };
 
     /// What the clock reads.
     fn now(&self) -> u64
@@ -85,9 +82,8 @@ pub trait Book: Drop {
 
     /// The job file by which an instance was made.
     fn file(&self, key: InstanceKey) -> Option<&JobFile>
-        ensures { (mode : Mode) (config : Configuration) (c : Chronicle) (i : ℕ)
-            → stands self.now mode config c
-            → instance_place config c key ≡ Some i → option_copied result ≡ read.file_of i c };
+        ensures { (mode : Mode) (config : Configuration) → OfInstance (stands self.now mode) config key (λ c i.
+            option_copied result ≡ read.file_of i c) };
 
     /// Whether the limit of its file allows one respawn more of an instance (init(5), `respawn limit`).
     fn may_respawn(&self, key: InstanceKey) -> bool
@@ -115,34 +111,28 @@ pub trait Book: Drop {
 
     /// The environment in force, if the instance has one.
     fn env(&self, key: InstanceKey) -> Option<&Env>
-        ensures { (mode : Mode) (config : Configuration) (c : Chronicle) (i : ℕ)
-            → stands self.now mode config c
-            → instance_place config c key ≡ Some i
-            → option_map_or (λ env. env.now) result [] ≡ read.env i c };
+        ensures { (mode : Mode) (config : Configuration) → OfInstance (stands self.now mode) config key (λ c i.
+            option_map_or (λ env. env.now) result [] ≡ read.env i c) };
 
     /// Why an instance failed since it entered starting last.
     fn failure(&self, key: InstanceKey) -> Option<Failure>
-        ensures { (mode : Mode) (config : Configuration) (c : Chronicle) (i : ℕ)
-            → stands self.now mode config c
-            → instance_place config c key ≡ Some i → result ≡ read.failure i c };
+        ensures { (mode : Mode) (config : Configuration) → OfInstance (stands self.now mode) config key (λ c i.
+            result ≡ read.failure i c) };
 
     /// Whether an instance waits for its own event.
     fn is_blocked(&self, key: InstanceKey) -> bool
-        ensures { (mode : Mode) (config : Configuration) (c : Chronicle) (i : ℕ)
-            → stands self.now mode config c
-            → instance_place config c key ≡ Some i → result ≡ is_some (read.blocker i c) };
+        ensures { (mode : Mode) (config : Configuration) → OfInstance (stands self.now mode) config key (λ c i.
+            result ≡ is_some (read.blocker i c)) };
 
     /// Whether a process was ordered and not answered since.
     fn awaits(&self, key: InstanceKey, process: Process) -> bool
-        ensures { (mode : Mode) (config : Configuration) (c : Chronicle) (i : ℕ)
-            → stands self.now mode config c
-            → instance_place config c key ≡ Some i → result ≡ read.is_awaited i process c };
+        ensures { (mode : Mode) (config : Configuration) → OfInstance (stands self.now mode) config key (λ c i.
+            result ≡ read.is_awaited i process c) };
 
     /// Whether a process lives.
     fn lives(&self, key: InstanceKey, process: Process) -> bool
-        ensures { (mode : Mode) (config : Configuration) (c : Chronicle) (i : ℕ)
-            → stands self.now mode config c
-            → instance_place config c key ≡ Some i → result ≡ read.lives i process c };
+        ensures { (mode : Mode) (config : Configuration) → OfInstance (stands self.now mode) config key (λ c i.
+            result ≡ read.lives i process c) };
 
     /// How many instances a job has.
     fn count(&self, job: usize) -> usize
@@ -152,9 +142,8 @@ pub trait Book: Drop {
 
     /// The name of an instance.
     fn name(&self, key: InstanceKey) -> &str
-        ensures { (mode : Mode) (config : Configuration) (c : Chronicle) (its : Instance)
-            → stands self.now mode config c
-            → instance_at config c key ≡ Some its → result.now ≡ its.name };
+        ensures { (mode : Mode) (config : Configuration) → OfWhole (stands self.now mode) config key (λ c its.
+            result.now ≡ its.name) };
 
     /// The instance of a job that has a name.
     fn find(&self, job: usize, name: &str) -> Option<InstanceKey>
@@ -166,15 +155,15 @@ pub trait Book: Drop {
 
     /// An event that hasn't finished.
     fn event_at(&self, key: EventId) -> Option<&Event>
-        ensures { (mode : Mode) (config : Configuration) (c : Chronicle) (e : ℕ)
-            → stands self.now mode config c
-            → event_place self.now c key ≡ Some e → option_copied result ≡ read.event_at e c };
+        ensures { (mode : Mode) (config : Configuration)
+            → OfEvent (stands self.now mode) (event_place self.now) config key (λ c e.
+            option_copied result ≡ read.event_at e c) };
 
     /// Whether an instance that held an event let it go as failed.
     fn is_spoilt(&self, key: EventId) -> bool
-        ensures { (mode : Mode) (config : Configuration) (c : Chronicle) (e : ℕ)
-            → stands self.now mode config c
-            → event_place self.now c key ≡ Some e → result ≡ held.is_spoilt e c };
+        ensures { (mode : Mode) (config : Configuration)
+            → OfEvent (stands self.now mode) (event_place self.now) config key (λ c e.
+            result ≡ held.is_spoilt e c) };
 
     /// How many events haven't finished.
     fn live_events(&self) -> usize
@@ -192,9 +181,8 @@ pub trait Book: Drop {
         ensures after { (config : Configuration) (c : Chronicle)
             → stands self.old Resting config c → SpeaksOf config on input.now c
             → stands self.new Stepping config (entry.Given input.now ∷ c) }
-        ensures events { (config : Configuration) (c : Chronicle) (k : EventIdValue) (j : ℕ)
-            → stands self.old Resting config c
-            → event_place self.old c k ≡ Some j → event_place self.new (entry.Given input.now ∷ c) k ≡ Some j };
+        ensures events { (config : Configuration) (c : Chronicle) → stands self.old Resting config c
+            → KeepsPlaces event_place self.old self.new c (entry.Given input.now ∷ c) };
 
     /// The input was an event from outside: it goes to the end of the queue.
     fn emit(&mut self, event: Event) -> Result<(), AllocError>
@@ -210,13 +198,12 @@ pub trait Book: Drop {
 
     /// A turn takes an event up. Takes no memory.
     fn handle(&mut self, key: EventId)
-        ensures after { (config : Configuration) (c : Chronicle) (e : ℕ)
-            → stands self.old Stepping config c
-            → event_place self.old c key ≡ Some e → stands self.new Stepping config (entry.Handled e ∷ c) }
-        ensures events { (config : Configuration) (c : Chronicle) (e : ℕ) (k : EventIdValue) (j : ℕ)
-            → stands self.old Stepping config c
-            → event_place self.old c key ≡ Some e
-            → event_place self.old c k ≡ Some j → event_place self.new (entry.Handled e ∷ c) k ≡ Some j };
+        ensures after { (config : Configuration)
+            → OfEvent (stands self.old Stepping) (event_place self.old) config key (λ c e.
+            stands self.new Stepping config (entry.Handled e ∷ c)) }
+        ensures events { (config : Configuration)
+            → OfEvent (stands self.old Stepping) (event_place self.old) config key (λ c e.
+            KeepsPlaces event_place self.old self.new c (entry.Handled e ∷ c)) };
 
     /// An event that nobody holds leaves the queue, and the client that waits for it is answered; an event that tells that it was spoilt
     /// goes to the end, if there is one. Returns the instance that waited for it, if one did. Takes no memory if no client waits and there is
@@ -226,112 +213,77 @@ pub trait Book: Drop {
         key: EventId,
         told: Option<Event>,
     ) -> Result<Option<InstanceKey>, AllocError>
-        ensures after { OnOk result ((config : Configuration) (c : Chronicle) (e : ℕ)
-            → stands self.old Stepping config c
-            → event_place self.old c key ≡ Some e → held.is_held config e c ≡ false
-            → stands self.new Stepping config
-            (telling e told ++ (replies.answering_waiter (replies.waiter e c) (held.is_spoilt e c)
-            ++ entry.Finished e ∷ c))) }
-        ensures blocked { IfOk result (λ on. (config : Configuration) (c : Chronicle) (e : ℕ)
-            → stands self.old Stepping config c
-            → event_place self.old c key ≡ Some e → held.is_held config e c ≡ false
-            → IsBlockedBy config e c on) }
-        ensures free { (config : Configuration) (c : Chronicle) (e : ℕ)
-            → stands self.old Stepping config c
-            → event_place self.old c key ≡ Some e → held.is_held config e c ≡ false
-            → told ≡ None → replies.waiter e c ≡ None → IsOk result };
+        ensures after { OnOk result ((config : Configuration)
+            → OfEvent (stands self.old Stepping) (event_place self.old) config key (λ c e.
+            held.is_held config e c ≡ false → stands self.new Stepping config (telling e told ++
+            (replies.answering_waiter (replies.waiter e c) (held.is_spoilt e c) ++ entry.Finished e ∷ c)))) }
+        ensures blocked { IfOk result (λ on. (config : Configuration)
+            → OfEvent (stands self.old Stepping) (event_place self.old) config key (λ c e.
+            held.is_held config e c ≡ false → IsBlockedBy config e c on)) }
+        ensures free { (config : Configuration)
+            → OfEvent (stands self.old Stepping) (event_place self.old) config key (λ c e.
+            held.is_held config e c ≡ false → told ≡ None → replies.waiter e c ≡ None → IsOk result) };
 
     /// An instance enters a state other than waiting.
     fn enter(&mut self, key: InstanceKey, state: State) -> Result<(), AllocError>
-        ensures after { OnOk result ((config : Configuration) (c : Chronicle) (i : ℕ)
-            → stands self.old Stepping config c
-            → instance_place config c key ≡ Some i → is_waiting state ≡ false
-            → stands self.new Stepping config (entry.Entered i state ∷ c)) }
-        ensures events { OnOk result ((config : Configuration) (c : Chronicle) (i : ℕ) (k : EventIdValue) (j : ℕ)
-            → stands self.old Stepping config c
-            → instance_place config c key ≡ Some i → is_waiting state ≡ false
-            → event_place self.old c k ≡ Some j → event_place self.new (entry.Entered i state ∷ c) k ≡ Some j) };
+        ensures after { OnOk result ((config : Configuration) → OfInstance (stands self.old Stepping) config key
+            (λ c i. is_waiting state ≡ false → stands self.new Stepping config (entry.Entered i state ∷ c))) }
+        ensures events { OnOk result ((config : Configuration)
+            → OfInstance (stands self.old Stepping) config key (λ c i. is_waiting state ≡ false
+            → KeepsPlaces event_place self.old self.new c (entry.Entered i state ∷ c))) };
 
     /// An instance enters waiting, with its last event, lets its holders go, and is gone.
     fn leave(&mut self, key: InstanceKey, event: Event) -> Result<(), AllocError>
-        ensures after { OnOk result ((config : Configuration) (c : Chronicle) (i : ℕ)
-            → stands self.old Stepping config c
-            → instance_place config c key ≡ Some i
-            → stands self.new Stepping config
-            (replies.releasing i false (entry.Queued (entry.Entering i entered.Waiting) event
-            ∷ entry.Entered i entered.Waiting ∷ c)
-            ++ entry.Queued (entry.Entering i entered.Waiting) event ∷ entry.Entered i entered.Waiting
-            ∷ c)) }
-        ensures events { OnOk result ((config : Configuration) (c : Chronicle) (i : ℕ) (k : EventIdValue) (j : ℕ)
-            → stands self.old Stepping config c
-            → instance_place config c key ≡ Some i
-            → event_place self.old c k ≡ Some j → event_place self.new (replies.releasing i false (entry.Queued (entry.Entering i entered.Waiting) event
-            ∷ entry.Entered i entered.Waiting ∷ c)
-            ++ entry.Queued (entry.Entering i entered.Waiting) event ∷ entry.Entered i entered.Waiting ∷ c) k ≡ Some j) };
+        ensures after { OnOk result ((config : Configuration) → OfInstance (stands self.old Stepping) config key (λ c i.
+            stands self.new Stepping config (after_leaving i event c))) }
+        ensures events { OnOk result ((config : Configuration) → OfInstance (stands self.old Stepping) config key (λ c i.
+            KeepsPlaces event_place self.old self.new c (after_leaving i event c))) };
 
     /// A process of an instance of a job is to be started.
     fn order(&mut self, job: &JobDef, key: InstanceKey, process: Process) -> Result<(), AllocError>
-        ensures after { OnOk result ((config : Configuration) (c : Chronicle) (i : ℕ)
-            → stands self.old Stepping config c
-            → instance_place config c key ≡ Some i → read.file_of i c ≡ Some job.now
-            → stands self.new Stepping config (entry.Ordered i process ∷ c)) }
-        ensures events { OnOk result ((config : Configuration) (c : Chronicle) (i : ℕ) (k : EventIdValue) (j : ℕ)
-            → stands self.old Stepping config c
-            → instance_place config c key ≡ Some i → read.file_of i c ≡ Some job.now
-            → event_place self.old c k ≡ Some j → event_place self.new (entry.Ordered i process ∷ c) k ≡ Some j) };
+        ensures after { OnOk result ((config : Configuration) → OfInstance (stands self.old Stepping) config key
+            (λ c i. read.file_of i c ≡ Some job.now
+            → stands self.new Stepping config (entry.Ordered i process ∷ c))) }
+        ensures events { OnOk result ((config : Configuration)
+            → OfInstance (stands self.old Stepping) config key (λ c i. read.file_of i c ≡ Some job.now
+            → KeepsPlaces event_place self.old self.new c (entry.Ordered i process ∷ c))) };
 
     /// An instance emits an event on entering a state.
     fn announce(&mut self, key: InstanceKey, state: State, event: Event) -> Result<(), AllocError>
-        ensures after { OnOk result ((config : Configuration) (c : Chronicle) (i : ℕ)
-            → stands self.old Stepping config c
-            → instance_place config c key ≡ Some i
-            → stands self.new Stepping config (entry.Queued (entry.Entering i state) event ∷ c)) }
-        ensures events { OnOk result ((config : Configuration) (c : Chronicle) (i : ℕ) (k : EventIdValue) (j : ℕ)
-            → stands self.old Stepping config c
-            → instance_place config c key ≡ Some i
-            → event_place self.old c k ≡ Some j → event_place self.new (entry.Queued (entry.Entering i state) event ∷ c) k ≡ Some j) };
+        ensures after { OnOk result ((config : Configuration) → OfInstance (stands self.old Stepping) config key
+            (λ c i. stands self.new Stepping config (entry.Queued (entry.Entering i state) event ∷ c))) }
+        ensures events { OnOk result ((config : Configuration)
+            → OfInstance (stands self.old Stepping) config key (λ c i.
+            KeepsPlaces event_place self.old self.new c (entry.Queued (entry.Entering i state) event ∷ c))) };
 
     /// Main of an instance is sent a signal.
     fn signal(&mut self, key: InstanceKey, signal: u8) -> Result<(), AllocError>
-        ensures after { OnOk result ((config : Configuration) (c : Chronicle) (i : ℕ)
-            → stands self.old Stepping config c
-            → instance_place config c key ≡ Some i
-            → stands self.new Stepping config (entry.Signalled i signal false ∷ c)) }
-        ensures events { OnOk result ((config : Configuration) (c : Chronicle) (i : ℕ) (k : EventIdValue) (j : ℕ)
-            → stands self.old Stepping config c
-            → instance_place config c key ≡ Some i
-            → event_place self.old c k ≡ Some j → event_place self.new (entry.Signalled i signal false ∷ c) k ≡ Some j) };
+        ensures after { OnOk result ((config : Configuration) → OfInstance (stands self.old Stepping) config key
+            (λ c i. stands self.new Stepping config (entry.Signalled i signal false ∷ c))) }
+        ensures events { OnOk result ((config : Configuration)
+            → OfInstance (stands self.old Stepping) config key (λ c i.
+            KeepsPlaces event_place self.old self.new c (entry.Signalled i signal false ∷ c))) };
 
     /// Main of an instance is sent KILL by the timer.
     fn kill(&mut self, key: InstanceKey) -> Result<(), AllocError>
-        ensures { OnOk result ((config : Configuration) (c : Chronicle) (i : ℕ)
-            → stands self.old Stepping config c
-            → instance_place config c key ≡ Some i
-            → stands self.new Stepping config (entry.Signalled i clock.kill true ∷ c)) };
+        ensures { OnOk result ((config : Configuration) → OfInstance (stands self.old Stepping) config key
+            (λ c i. stands self.new Stepping config (entry.Signalled i clock.kill true ∷ c))) };
 
     /// Main of an instance is respawned.
     fn respawn(&mut self, key: InstanceKey) -> Result<(), AllocError>
-        ensures { OnOk result ((config : Configuration) (c : Chronicle) (i : ℕ)
-            → stands self.old Stepping config c
-            → instance_place config c key ≡ Some i
-            → stands self.new Stepping config (entry.Respawned i (clock.now c) ∷ c)) };
+        ensures { OnOk result ((config : Configuration) → OfInstance (stands self.old Stepping) config key
+            (λ c i. stands self.new Stepping config (entry.Respawned i (clock.now c) ∷ c))) };
 
     /// An instance lets its holders go; clients among them are answered.
     fn release(&mut self, key: InstanceKey) -> Result<(), AllocError>
-        ensures after { OnOk result ((config : Configuration) (c : Chronicle) (i : ℕ)
-            → stands self.old Stepping config c
-            → instance_place config c key ≡ Some i
-            → stands self.new Stepping config (replies.releasing i false c ++ c)) }
-        ensures holders { OnOk result ((config : Configuration) (c : Chronicle) (i : ℕ)
-            (its : HoldersValue) (places : List ℕ)
+        ensures after { OnOk result ((config : Configuration) → OfInstance (stands self.old Stepping) config key (λ c i.
+            stands self.new Stepping config (replies.releasing i false c ++ c))) }
+        ensures holders { OnOk result ((config : Configuration) (c : Chronicle) (i : ℕ) (its : HoldersValue) (places : List ℕ)
             → stands self.old Stepping config c → instance_place config c key ≡ Some i
-            → held_as (event_place self.old c) (request_place c) its ≡ map Some places
-            → held_as (event_place self.new (replies.releasing i false c ++ c))
-            (request_place (replies.releasing i false c ++ c)) its ≡ map Some places) }
-        ensures events { OnOk result ((config : Configuration) (c : Chronicle) (i : ℕ) (k : EventIdValue) (j : ℕ)
-            → stands self.old Stepping config c
-            → instance_place config c key ≡ Some i
-            → event_place self.old c k ≡ Some j → event_place self.new (replies.releasing i false c ++ c) k ≡ Some j) };
+            → HoldersAt (event_place self.old) its places c
+            → HoldersAt (event_place self.new) its places (replies.releasing i false c ++ c)) }
+        ensures events { OnOk result ((config : Configuration) → OfInstance (stands self.old Stepping) config key (λ c i.
+            KeepsPlaces event_place self.old self.new c (replies.releasing i false c ++ c))) };
 
     /// An instance's goal changes, with the environment and the holders that go with it.
     fn aim(
@@ -343,35 +295,30 @@ pub trait Book: Drop {
     ) -> Result<(), AllocError>
         ensures after { OnOk result ((config : Configuration) (c : Chronicle) (i : ℕ) (places : List ℕ)
             → stands self.old Stepping config c → instance_place config c key ≡ Some i
-            → held_as (event_place self.old c) (request_place c) holders ≡ map Some places
+            → HoldersAt (event_place self.old) holders places c
             → stands self.new Stepping config (entry.Aimed i goal environment places ∷ c)) }
-        ensures events { OnOk result ((config : Configuration) (c : Chronicle) (i : ℕ) (places : List ℕ) (k : EventIdValue) (j : ℕ)
-            → stands self.old Stepping config c
-            → instance_place config c key ≡ Some i
-            → held_as (event_place self.old c) (request_place c) holders ≡ map Some places
-            → event_place self.old c k ≡ Some j → event_place self.new (entry.Aimed i goal environment places ∷ c) k ≡ Some j) };
+        ensures events { OnOk result ((config : Configuration) (c : Chronicle) (i : ℕ) (places : List ℕ)
+            → stands self.old Stepping config c → instance_place config c key ≡ Some i
+            → HoldersAt (event_place self.old) holders places c
+            → KeepsPlaces event_place self.old self.new c (entry.Aimed i goal environment places ∷ c)) };
 
     /// A restart of an instance is taken, with these holders.
     fn restart(&mut self, key: InstanceKey, holders: Holders) -> Result<(), AllocError>
         ensures { OnOk result ((config : Configuration) (c : Chronicle) (i : ℕ) (places : List ℕ)
             → stands self.old Stepping config c → instance_place config c key ≡ Some i
-            → held_as (event_place self.old c) (request_place c) holders ≡ map Some places
+            → HoldersAt (event_place self.old) holders places c
             → stands self.new Stepping config (entry.Restarted i places ∷ c)) };
 
     /// An instance's goal becomes stop by itself; its holders stay.
     fn end_itself(&mut self, key: InstanceKey) -> Result<(), AllocError>
-        ensures { OnOk result ((config : Configuration) (c : Chronicle) (i : ℕ)
-            → stands self.old Stepping config c
-            → instance_place config c key ≡ Some i
-            → stands self.new Stepping config (entry.Aimed i goal_stop [] (read.holders i c) ∷ c)) };
+        ensures { OnOk result ((config : Configuration) → OfInstance (stands self.old Stepping) config key
+            (λ c i. stands self.new Stepping config (entry.Aimed i goal_stop [] (read.holders i c) ∷ c))) };
 
     /// An instance fails: that is kept, and it lets its holders go as failed; clients among them are answered.
     fn fail(&mut self, key: InstanceKey, failure: Failure) -> Result<(), AllocError>
-        ensures { OnOk result ((config : Configuration) (c : Chronicle) (i : ℕ)
-            → stands self.old Stepping config c
-            → instance_place config c key ≡ Some i
-            → stands self.new Stepping config
-            (replies.releasing i true (entry.Failed i failure ∷ c) ++ entry.Failed i failure ∷ c)) };
+        ensures { OnOk result ((config : Configuration) → OfInstance (stands self.old Stepping) config key
+            (λ c i. stands self.new Stepping config (replies.releasing i true (entry.Failed i failure ∷ c) ++
+            entry.Failed i failure ∷ c))) };
 
     /// The job at an index of the table gets an instance of this name, which it didn't have, by this file of it.
     fn make(&mut self, index: usize, file: &JobFile, name: &str) -> Result<InstanceKey, AllocError>
@@ -383,17 +330,14 @@ pub trait Book: Drop {
             → stands self.old Stepping config c → job_at config index ≡ Some file.now
             → instance_named (called file.now.name name.now) c ≡ None
             → instance_place config (entry.Made file.now name.now ∷ c) key ≡ Some (length c)) }
-        ensures holders { OnOk result ((config : Configuration) (c : Chronicle)
-            (who : HoldersValue) (places : List ℕ)
+        ensures holders { OnOk result ((config : Configuration) (c : Chronicle) (who : HoldersValue) (places : List ℕ)
+            → stands self.old Stepping config c → job_at config index ≡ Some file.now
+            → instance_named (called file.now.name name.now) c ≡ None → HoldersAt (event_place self.old) who places c
+            → held_as (event_place self.new (entry.Made file.now name.now ∷ c)) (request_place c) who ≡ map Some places) }
+        ensures events { OnOk result ((config : Configuration) (c : Chronicle)
             → stands self.old Stepping config c → job_at config index ≡ Some file.now
             → instance_named (called file.now.name name.now) c ≡ None
-            → held_as (event_place self.old c) (request_place c) who ≡ map Some places
-            → held_as (event_place self.new (entry.Made file.now name.now ∷ c)) (request_place c) who
-            ≡ map Some places) }
-        ensures events { OnOk result ((config : Configuration) (c : Chronicle) (k : EventIdValue) (j : ℕ)
-            → stands self.old Stepping config c
-            → job_at config index ≡ Some file.now → instance_named (called file.now.name name.now) c ≡ None
-            → event_place self.old c k ≡ Some j → event_place self.new (entry.Made file.now name.now ∷ c) k ≡ Some j) };
+            → KeepsPlaces event_place self.old self.new c (entry.Made file.now name.now ∷ c)) };
 
     /// These jobs come into force, in byte order of names: by a load, in a step in which no request has acted on an instance. What each
     /// `start on` had seen is forgotten, and instances go on by their own files.
@@ -447,11 +391,10 @@ pub trait Book: Drop {
             → event_place self.old c event ≡ Some e
             → holds ≡ seen.holds file.now.stop_on
             (seen.seen config (entry.StopOn i) (entry.Offered (entry.StopOn i) e ∷ c))) }
-        ensures events { OnOk result ((config : Configuration) (c : Chronicle) (i e : ℕ) (k : EventIdValue) (j : ℕ)
-            → stands self.old Stepping config c
-            → instance_place config c key ≡ Some i → read.file_of i c ≡ Some file.now
-            → event_place self.old c event ≡ Some e → event_place self.old c k ≡ Some j
-            → event_place self.new (entry.Offered (entry.StopOn i) e ∷ c) k ≡ Some j) };
+        ensures events { OnOk result ((config : Configuration) (c : Chronicle) (i e : ℕ)
+            → stands self.old Stepping config c → instance_place config c key ≡ Some i
+            → read.file_of i c ≡ Some file.now → event_place self.old c event ≡ Some e
+            → KeepsPlaces event_place self.old self.new c (entry.Offered (entry.StopOn i) e ∷ c)) };
 
     /// An event is offered to the `start on` of the job at an index of the table, which has this environment; returns whether that is
     /// true then.
@@ -472,49 +415,38 @@ pub trait Book: Drop {
             → holds ≡ seen.holds job.now.start_on
             (seen.seen config (entry.StartOn job.now.name)
             (entry.Offered (entry.StartOn job.now.name) e ∷ c))) }
-        ensures events { OnOk result ((config : Configuration) (c : Chronicle) (e : ℕ) (k : EventIdValue) (j : ℕ)
+        ensures events { OnOk result ((config : Configuration) (c : Chronicle) (e : ℕ)
             → stands self.old Stepping config c → job_at config index ≡ Some job.now
             → env.now ≡ env_of_job config job.now.name → event_place self.old c event ≡ Some e
-            → event_place self.old c k ≡ Some j
-            → event_place self.new (entry.Offered (entry.StartOn job.now.name) e ∷ c) k ≡ Some j) };
+            → KeepsPlaces event_place self.old self.new c (entry.Offered (entry.StartOn job.now.name) e ∷ c)) };
 
     /// The `stop on` of an instance fires; returns the events that it takes, from left to right.
     fn fire_stop(&mut self, job: &JobDef, key: InstanceKey) -> Result<Items<EventId>, AllocError>
-        ensures after { OnOk result ((config : Configuration) (c : Chronicle) (i : ℕ)
-            → stands self.old Stepping config c
-            → instance_place config c key ≡ Some i → read.file_of i c ≡ Some job.now
-            → stands self.new Stepping config
-            (entry.Fired (entry.StopOn i) (seen.taken job.now.stop_on
-            (seen.seen config (entry.StopOn i) c)) ∷ c)) }
-        ensures taken { IfOk result (λ taken. (config : Configuration) (c : Chronicle) (i : ℕ)
-            → stands self.old Stepping config c
-            → instance_place config c key ≡ Some i → read.file_of i c ≡ Some job.now
-            → map (event_place self.new (entry.Fired (entry.StopOn i)
-            (seen.taken job.now.stop_on (seen.seen config (entry.StopOn i) c)) ∷ c)) taken
-            ≡ map Some (seen.taken job.now.stop_on (seen.seen config (entry.StopOn i) c))) }
-        ensures events { OnOk result ((config : Configuration) (c : Chronicle) (i : ℕ) (k : EventIdValue) (j : ℕ)
-            → stands self.old Stepping config c
-            → instance_place config c key ≡ Some i → read.file_of i c ≡ Some job.now
-            → event_place self.old c k ≡ Some j → event_place self.new (entry.Fired (entry.StopOn i) (seen.taken job.now.stop_on
-            (seen.seen config (entry.StopOn i) c)) ∷ c) k ≡ Some j) };
+        ensures after { OnOk result ((config : Configuration) → OfInstance (stands self.old Stepping) config key (λ c i.
+            read.file_of i c ≡ Some job.now → stands self.new Stepping config
+            (entry.Fired (entry.StopOn i) (stop_events config job.now i c) ∷ c))) }
+        ensures taken { IfOk result (λ taken. (config : Configuration) → OfInstance (stands self.old Stepping) config key (λ c i.
+            read.file_of i c ≡ Some job.now → map (event_place self.new
+            (entry.Fired (entry.StopOn i) (stop_events config job.now i c) ∷ c)) taken
+            ≡ map Some (stop_events config job.now i c))) }
+        ensures events { OnOk result ((config : Configuration) → OfInstance (stands self.old Stepping) config key (λ c i.
+            read.file_of i c ≡ Some job.now → KeepsPlaces event_place self.old self.new c
+            (entry.Fired (entry.StopOn i) (stop_events config job.now i c) ∷ c))) };
 
     /// The `start on` of the job at an index of the table fires; returns the events that it takes, from left to right.
     fn fire_start(&mut self, index: usize, job: &JobDef) -> Result<Items<EventId>, AllocError>
         ensures after { OnOk result ((config : Configuration) (c : Chronicle)
             → stands self.old Stepping config c → job_at config index ≡ Some job.now
             → stands self.new Stepping config
-            (entry.Fired (entry.StartOn job.now.name)
-            (seen.taken job.now.start_on (seen.seen config (entry.StartOn job.now.name) c)) ∷ c)) }
+            (entry.Fired (entry.StartOn job.now.name) (start_events config job.now c) ∷ c)) }
         ensures taken { IfOk result (λ taken. (config : Configuration) (c : Chronicle)
             → stands self.old Stepping config c → job_at config index ≡ Some job.now
-            → map (event_place self.new (entry.Fired (entry.StartOn job.now.name)
-            (seen.taken job.now.start_on (seen.seen config (entry.StartOn job.now.name) c)) ∷ c)) taken
-            ≡ map Some (seen.taken job.now.start_on (seen.seen config (entry.StartOn job.now.name) c))) }
-        ensures events { OnOk result ((config : Configuration) (c : Chronicle) (k : EventIdValue) (j : ℕ)
-            → stands self.old Stepping config c
-            → job_at config index ≡ Some job.now
-            → event_place self.old c k ≡ Some j → event_place self.new (entry.Fired (entry.StartOn job.now.name) (seen.taken job.now.start_on
-            (seen.seen config (entry.StartOn job.now.name) c)) ∷ c) k ≡ Some j) };
+            → map (event_place self.new (entry.Fired (entry.StartOn job.now.name) (start_events config job.now c) ∷ c)) taken
+            ≡ map Some (start_events config job.now c)) }
+        ensures events { OnOk result ((config : Configuration) (c : Chronicle)
+            → stands self.old Stepping config c → job_at config index ≡ Some job.now
+            → KeepsPlaces event_place self.old self.new c
+            (entry.Fired (entry.StartOn job.now.name) (start_events config job.now c) ∷ c)) };
 
     /// This step's client is answered, if it doesn't wait and wasn't answered yet; returns whether it was.
     fn reply_last(&mut self) -> Result<bool, AllocError>

@@ -2,7 +2,7 @@
 ghost use Rattle.std.specs.Prelude.{◌≡◌, ◌∷◌, [], codes, IfOk, OnOk, Some};
 ghost use Rattle.std.specs.Option.{option_copied, option_map_or};
 ghost use Rattle.up_book.specs.Sending.{env_by, listed, order_by, signal_by};
-ghost use Rattle.up_book.specs.Views.{Places, bindings_of, view};
+ghost use Rattle.up_book.specs.Views.{Places, view};
 ghost use Rattle.up_conf.specs.declared.job.JobDef.{JobDef as JobValue};
 ghost use Rattle.up_model.specs.declared.output.Output.TheVariants as output;
 ghost use Rattle.up_model.specs.Moves.{action_of};

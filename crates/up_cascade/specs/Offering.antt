@@ -1,10 +1,11 @@
 -- The expressions that are still to be offered the event of a step, in order.
 use Rattle.std.specs.Prelude.{ℕ, List, [], ◌∷◌, ◌++◌, if◌then◌else◌}
 use Rattle.up_conf.specs.declared.job.JobDef.{JobDef}
-use Rattle.up_model.specs.Chronicle.{Chronicle, Entry, Expression, StartOn, StopOn}
+use Rattle.up_book.specs.Histories.{adding, start_events, stop_events}
+use Rattle.up_model.specs.Chronicle.{Chronicle, Entry, Expression, Fired, StartOn, StopOn}
 use Rattle.up_model.specs.Configuration.{Configuration}
 use Rattle.up_model.specs.Instances.{Instance, instances_of}
-use Rattle.up_model.specs.Offers.{is_open, stop_offer, start_offer}
+use Rattle.up_model.specs.Offers.{is_open, stop_by, start_by, stop_offer, start_offer}
 use Rattle.up_model.specs.Seen.{was_offered}
 
 -- the `stop on` of an instance, by its file, or a job's `start on`
@@ -36,3 +37,15 @@ offer_at config (OfStart job) event c = start_offer config job event c
 abbrev pub offer_one : Configuration → List Asked → (event : ℕ) → Chronicle → List Entry
 offer_one config [] event c = []
 offer_one config (asked ∷ others) event c = offer_at config asked event c
+
+-- the history after the `stop on` of an instance, by this file, has fired
+abbrev pub after_stop_on : Configuration → JobDef → (instance : ℕ) → Chronicle → Chronicle
+after_stop_on config file instance c =
+    let events = stop_events config file instance c in
+    adding (stop_by instance events) (Fired (StopOn instance) events ∷ c)
+
+-- and after a job's `start on` has
+abbrev pub after_start_on : Configuration → JobDef → Chronicle → Chronicle
+after_start_on config job c =
+    let events = start_events config job c in
+    adding (start_by config job events) (Fired (StartOn job.name) events ∷ c)

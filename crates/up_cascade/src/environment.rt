@@ -1,5 +1,5 @@
 //! The environment of a start: that of the file by which its instance was made, and what the start adds (init(5), "Job environment").
-ghost use Rattle.std.specs.Prelude.{◌≡◌, ℕ, List, map, Option, Some, IfOk};
+ghost use Rattle.std.specs.Prelude.{◌≡◌, ℕ, List, map, Some, IfOk};
 ghost use Rattle.up_book.specs.Keys.{Mode, instance_place, job_at};
 ghost use Rattle.up_conf.specs.declared.job.JobDef.{JobDef as JobValue};
 ghost use Rattle.up_model.specs.Chronicle.{Chronicle};

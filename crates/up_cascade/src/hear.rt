@@ -1,8 +1,8 @@
 //! How each job hears of the event that a turn takes up.
 ghost use Rattle.std.specs.Prelude.{◌≡◌, ◌≤◌, ◌<◌, ◌||◌, ℕ, true, ◌++◌, ◌∷◌, [], length, Some, IsOk, IfOk, IfSome, MatchOption, OnOk};
 ghost use Rattle.up_book.specs.Hearers.{hears, one_hears};
-ghost use Rattle.up_model.specs.declared.event_id.EventId.{EventId as EventIdValue};
-ghost use Rattle.up_book.specs.Keys.{Stepping, job_at, name_at, instance_at};
+ghost use Rattle.up_book.specs.Histories.{KeepsPlaces, OfEvent, OfOffer};
+ghost use Rattle.up_book.specs.Keys.{Stepping, job_at, name_at};
 ghost use Rattle.up_cascade.specs.Settling.{settle_one, ListsAfter};
 ghost use Rattle.up_cascade.specs.Settling as settling;
 ghost use Rattle.up_cascade.specs.Unfired.{NoneHolds};
@@ -12,7 +12,7 @@ ghost use Rattle.up_model.specs.Chronicle.{Chronicle};
 ghost use Rattle.up_model.specs.Chronicle as entry;
 ghost use Rattle.up_model.specs.Due.{due};
 ghost use Rattle.up_model.specs.Readings.{event_at};
-ghost use Rattle.up_model.specs.Instances.{Instance, instances_of};
+ghost use Rattle.up_model.specs.Instances.{instances_of};
 ghost use Rattle.up_model.specs.Offers as model;
 ghost use Rattle.up_model.specs.Values.{Bytes};
 
@@ -24,7 +24,7 @@ use std::alloc::{AllocError, Global};
 use up_book::Book;
 use up_image::JobFile;
 use up_job::InstanceKey;
-use up_model::{EventId, JobDef};
+use up_model::EventId;
 
 // Offers the event to the `stop on` of an instance's file, and moves the instance on as long as it may; returns whether it is still there.
 fn hear_by<B: Book>(
@@ -35,25 +35,15 @@ fn hear_by<B: Book>(
     key: InstanceKey,
     event: EventId,
 ) -> Result<bool, AllocError>
-    ensures after { OnOk result ((c : Chronicle) (its : Instance) (e : ℕ)
-        → B.stands book.old Stepping setup.now c
-        → instance_at setup.now c key ≡ Some its
-        → its.file ≡ file.now → B.event_place book.old c event ≡ Some e
-        → B.stands book.new Stepping setup.now
-        (settle_one 5 file.now its (model.stop_offer setup.now file.now its.place e c ++ c))) }
-    ensures lists { IfOk result (λ stays. (c : Chronicle) (its : Instance) (e : ℕ)
-        → B.stands book.old Stepping setup.now c
-        → instance_at setup.now c key ≡ Some its
-        → its.file ≡ file.now → B.event_place book.old c event ≡ Some e
-        → ListsAfter stays its c
-        (settle_one 5 file.now its (model.stop_offer setup.now file.now its.place e c ++ c))) }
-    ensures events { OnOk result ((c : Chronicle) (its : Instance) (e : ℕ) (k : EventIdValue) (j : ℕ)
-        → B.stands book.old Stepping setup.now c
-        → instance_at setup.now c key ≡ Some its
-        → its.file ≡ file.now → B.event_place book.old c event ≡ Some e
-        → B.event_place book.old c k ≡ Some j
-        → B.event_place book.new
-        (settle_one 5 file.now its (model.stop_offer setup.now file.now its.place e c ++ c)) k ≡ Some j) }
+    ensures after { OnOk result (OfOffer (B.stands book.old Stepping) (B.event_place book.old) setup.now key event (λ c its e.
+        its.file ≡ file.now → B.stands book.new Stepping setup.now
+        (settle_one 5 file.now its (model.stop_offer setup.now file.now its.place e c ++ c)))) }
+    ensures lists { IfOk result (λ stays.
+        OfOffer (B.stands book.old Stepping) (B.event_place book.old) setup.now key event (λ c its e.
+        its.file ≡ file.now → ListsAfter stays its c (settle_one 5 file.now its (model.stop_offer setup.now file.now its.place e c ++ c)))) }
+    ensures events { OnOk result (OfOffer (B.stands book.old Stepping) (B.event_place book.old) setup.now key event (λ c its e.
+        its.file ≡ file.now → KeepsPlaces B.event_place book.old book.new c
+        (settle_one 5 file.now its (model.stop_offer setup.now file.now its.place e c ++ c)))) }
 {
     offer_stop(alloc, setup, book, file, key, event)?;
     let stays = moves(alloc, setup, book, file.job(), key)?;
@@ -68,22 +58,15 @@ fn hear_stop<B: Book>(
     key: InstanceKey,
     event: EventId,
 ) -> Result<bool, AllocError>
-    ensures after { OnOk result ((c : Chronicle) (its : Instance) (e : ℕ)
-        → B.stands book.old Stepping setup.now c
-        → instance_at setup.now c key ≡ Some its → B.event_place book.old c event ≡ Some e
-        → B.stands book.new Stepping setup.now
-        (settle_one 5 its.file its (model.stop_offer setup.now its.file its.place e c ++ c))) }
-    ensures lists { IfOk result (λ stays. (c : Chronicle) (its : Instance) (e : ℕ)
-        → B.stands book.old Stepping setup.now c
-        → instance_at setup.now c key ≡ Some its → B.event_place book.old c event ≡ Some e
-        → ListsAfter stays its c
-        (settle_one 5 its.file its (model.stop_offer setup.now its.file its.place e c ++ c))) }
-    ensures events { OnOk result ((c : Chronicle) (its : Instance) (e : ℕ) (k : EventIdValue) (j : ℕ)
-        → B.stands book.old Stepping setup.now c
-        → instance_at setup.now c key ≡ Some its → B.event_place book.old c event ≡ Some e
-        → B.event_place book.old c k ≡ Some j
-        → B.event_place book.new
-        (settle_one 5 its.file its (model.stop_offer setup.now its.file its.place e c ++ c)) k ≡ Some j) }
+    ensures after { OnOk result (OfOffer (B.stands book.old Stepping) (B.event_place book.old) setup.now key event (λ c its e.
+        B.stands book.new Stepping setup.now
+        (settle_one 5 its.file its (model.stop_offer setup.now its.file its.place e c ++ c)))) }
+    ensures lists { IfOk result (λ stays.
+        OfOffer (B.stands book.old Stepping) (B.event_place book.old) setup.now key event (λ c its e.
+        ListsAfter stays its c (settle_one 5 its.file its (model.stop_offer setup.now its.file its.place e c ++ c)))) }
+    ensures events { OnOk result (OfOffer (B.stands book.old Stepping) (B.event_place book.old) setup.now key event (λ c its e.
+        KeepsPlaces B.event_place book.old book.new c
+        (settle_one 5 its.file its (model.stop_offer setup.now its.file its.place e c ++ c)))) }
 {
     match file_of(book, key)? {
         Some(file) => {
@@ -105,11 +88,10 @@ fn hear_stops<B: Book>(
     ensures after { OnOk result ((c : Chronicle) (name : Bytes) (e : ℕ) → B.stands book.old Stepping setup.now c
         → name_at setup.now index ≡ Some name → B.event_place book.old c event ≡ Some e
         → B.stands book.new Stepping setup.now (settling.hear_stops setup.now (instances_of name c) e c)) }
-    ensures events { OnOk result ((c : Chronicle) (name : Bytes) (e : ℕ) (k : EventIdValue) (j : ℕ)
-        → B.stands book.old Stepping setup.now c
-        → name_at setup.now index ≡ Some name → B.event_place book.old c event ≡ Some e
-        → B.event_place book.old c k ≡ Some j
-        → B.event_place book.new (settling.hear_stops setup.now (instances_of name c) e c) k ≡ Some j) }
+    ensures events { OnOk result ((c : Chronicle) (name : Bytes) (e : ℕ)
+        → B.stands book.old Stepping setup.now c → name_at setup.now index ≡ Some name
+        → B.event_place book.old c event ≡ Some e → KeepsPlaces B.event_place book.old book.new c
+        (settling.hear_stops setup.now (instances_of name c) e c)) }
 {
     let mut at = 0;
     for turn in 0..book.count(index) {
@@ -133,10 +115,9 @@ fn hear_start<B: Book>(
     ensures after { OnOk result ((c : Chronicle) (e : ℕ) → B.stands book.old Stepping setup.now c
         → job_at setup.now index ≡ Some file.now → B.event_place book.old c event ≡ Some e
         → B.stands book.new Stepping setup.now (settling.hear_start setup.now file.now e c)) }
-    ensures events { OnOk result ((c : Chronicle) (e : ℕ) (k : EventIdValue) (j : ℕ) → B.stands book.old Stepping setup.now c
+    ensures events { OnOk result ((c : Chronicle) (e : ℕ) → B.stands book.old Stepping setup.now c
         → job_at setup.now index ≡ Some file.now → B.event_place book.old c event ≡ Some e
-        → B.event_place book.old c k ≡ Some j
-        → B.event_place book.new (settling.hear_start setup.now file.now e c) k ≡ Some j) }
+        → KeepsPlaces B.event_place book.old book.new c (settling.hear_start setup.now file.now e c)) }
 {
     offer_start(alloc, setup, book, index, file, event)?;
     settle_each(alloc, setup, book, index)?;
@@ -155,10 +136,9 @@ fn hear<B: Book>(
     ensures after { OnOk result ((c : Chronicle) (e : ℕ) → B.stands book.old Stepping setup.now c
         → job_at setup.now index ≡ Some file.now → B.event_place book.old c event ≡ Some e
         → B.stands book.new Stepping setup.now (settling.hear setup.now file.now e c)) }
-    ensures events { OnOk result ((c : Chronicle) (e : ℕ) (k : EventIdValue) (j : ℕ) → B.stands book.old Stepping setup.now c
+    ensures events { OnOk result ((c : Chronicle) (e : ℕ) → B.stands book.old Stepping setup.now c
         → job_at setup.now index ≡ Some file.now → B.event_place book.old c event ≡ Some e
-        → B.event_place book.old c k ≡ Some j
-        → B.event_place book.new (settling.hear setup.now file.now e c) k ≡ Some j) }
+        → KeepsPlaces B.event_place book.old book.new c (settling.hear setup.now file.now e c)) }
 {
     hear_stops(alloc, setup, book, index, event)?;
     hear_start(alloc, setup, book, index, file, event)?;
@@ -172,14 +152,12 @@ fn next_hearer<'a, B: Book>(
     event: EventId,
     from: usize,
 ) -> Option<(usize, &'a JobFile)>
-    ensures next { (c : Chronicle) (e : ℕ) → B.stands book.now Stepping setup.now c
-        → B.event_place book.now c event ≡ Some e
-        → MatchOption result (AreUnheard setup.now (event_at e c) c from (length setup.now.jobs))
-        (λ found. (job_at setup.now found.0 ≡ Some found.1.now)
-        × AreUnheard setup.now (event_at e c) c from found.0) }
-    ensures hears { (c : Chronicle) (e : ℕ) → B.stands book.now Stepping setup.now c
-        → B.event_place book.now c event ≡ Some e
-        → IfSome result (λ found. (hears found.1.now (event_at e c) || one_hears (event_at e c) (instances_of found.1.now.name c)) ≡ true) }
+    ensures next { OfEvent (B.stands book.now Stepping) (B.event_place book.now) setup.now event (λ c e.
+        MatchOption result (AreUnheard setup.now (event_at e c) c from (length setup.now.jobs)) (λ found.
+        (job_at setup.now found.0 ≡ Some found.1.now) × AreUnheard setup.now (event_at e c) c from found.0)) }
+    ensures hears { OfEvent (B.stands book.now Stepping) (B.event_place book.now) setup.now event (λ c e. IfSome
+        result (λ found. (hears found.1.now (event_at e c) || one_hears (event_at e c) (instances_of
+        found.1.now.name c)) ≡ true)) }
     ensures within { IfSome result (λ found. (from ≤ found.0) × (found.0 < length setup.now.jobs)
         × (found.0 < 18446744073709551615)) }
 {
@@ -209,9 +187,8 @@ pub fn hear_all<B: Book>(
         → B.event_place book.old (entry.Handled e ∷ entry.Given given_as.Turn ∷ c) event ≡ Some e
         → B.stands book.new Stepping setup.now
         (settling.hear_all setup.now setup.now.jobs e (entry.Handled e ∷ entry.Given given_as.Turn ∷ c))) }
-    ensures unheard { (c : Chronicle) (e : ℕ) → B.stands book.old Stepping setup.now c
-        → B.event_place book.old c event ≡ Some e → NoneHears setup.now (event_at e c) c
-        → IsOk result × (book.new ≡ book.old) }
+    ensures unheard { OfEvent (B.stands book.old Stepping) (B.event_place book.old) setup.now event (λ c e.
+        NoneHears setup.now (event_at e c) c → IsOk result × (book.new ≡ book.old)) }
 {
     setup.names_differ();
     let mut from = 0;

@@ -1,7 +1,7 @@
 //! The moves of instances from state to state.
 ghost use Rattle.std.specs.Prelude.{◌≡◌, ℕ, false, not, ◌&&◌, ◌||◌, ◌∷◌, [], ◌++◌, Option, Some, IfOk, OnOk};
-ghost use Rattle.up_model.specs.declared.event_id.EventId.{EventId as EventIdValue};
-ghost use Rattle.up_book.specs.Keys.{Mode, Stepping, instance_at, instance_place};
+ghost use Rattle.up_book.specs.Histories.{KeepsPlaces, OfInstance, OfWhole, adding};
+ghost use Rattle.up_book.specs.Keys.{Mode, Stepping, instance_at};
 ghost use Rattle.up_cascade.specs.Settling.{settle_one, ListsAfter};
 ghost use Rattle.up_model.specs.declared.state.State.TheVariants as entered;
 ghost use Rattle.up_model.specs.Chronicle.{Chronicle};
@@ -26,50 +26,46 @@ use up_model::{Entry, Goal, JobDef, JobEvent, Process, State};
 
 // Whether an order was answered, if the job has the process.
 fn is_answered<B: Book>(book: &B, job: &JobDef, key: InstanceKey, process: Process) -> bool
-    ensures { (mode : Mode) (config : Configuration) (c : Chronicle) (i : ℕ) → B.stands book.now mode config c
-        → instance_place config c key ≡ Some i
-        → result ≡ model.is_over job.now i (life.ForAnswer process) c }
+    ensures { (mode : Mode) (config : Configuration) → OfInstance (B.stands book.now mode) config key (λ c i.
+        result ≡ model.is_over job.now i (life.ForAnswer process) c) }
 {
     !has_process(job, process) || !book.awaits(key, process)
 }
 
 fn is_at_work<B: Book>(book: &B, key: InstanceKey, process: Process) -> bool
-    ensures { (mode : Mode) (config : Configuration) (c : Chronicle) (i : ℕ) → B.stands book.now mode config c
-        → instance_place config c key ≡ Some i
-        → result ≡ (read.is_awaited i process c || read.lives i process c) }
+    ensures { (mode : Mode) (config : Configuration) → OfInstance (B.stands book.now mode) config key (λ c i.
+        result ≡ (read.is_awaited i process c || read.lives i process c)) }
 {
     book.awaits(key, process) || book.lives(key, process)
 }
 
 // Whether a process was refused or has ended, if the job has it.
 fn is_through<B: Book>(book: &B, job: &JobDef, key: InstanceKey, process: Process) -> bool
-    ensures { (mode : Mode) (config : Configuration) (c : Chronicle) (i : ℕ) → B.stands book.now mode config c
-        → instance_place config c key ≡ Some i
-        → result ≡ model.is_over job.now i (life.ForProcess process) c }
+    ensures { (mode : Mode) (config : Configuration) → OfInstance (B.stands book.now mode) config key (λ c i.
+        result ≡ model.is_over job.now i (life.ForProcess process) c) }
 {
     !has_process(job, process) || !is_at_work(book, key, process)
 }
 
 fn is_main_gone<B: Book>(book: &B, job: &JobDef, key: InstanceKey) -> bool
-    ensures { (mode : Mode) (config : Configuration) (c : Chronicle) (i : ℕ) → B.stands book.now mode config c
-        → instance_place config c key ≡ Some i
-        → result ≡ (model.has_process job.now process.Main && not (read.lives i process.Main c)) }
+    ensures { (mode : Mode) (config : Configuration) → OfInstance (B.stands book.now mode) config key (λ c i.
+        result ≡ (model.has_process job.now process.Main && not (read.lives i process.Main c))) }
 {
     has_process(job, Process::Main) && !book.lives(key, Process::Main)
 }
 
 // Whether there is a reason to leave running.
 fn is_changed<B: Book>(book: &B, job: &JobDef, key: InstanceKey) -> bool
-    ensures { (mode : Mode) (config : Configuration) (c : Chronicle) (i : ℕ) → B.stands book.now mode config c
-        → instance_place config c key ≡ Some i → result ≡ model.is_over job.now i life.ForChange c }
+    ensures { (mode : Mode) (config : Configuration) → OfInstance (B.stands book.now mode) config key (λ c i.
+        result ≡ model.is_over job.now i life.ForChange c) }
 {
     !book.goal(key).is_start() || book.was_restarted(key) || is_main_gone(book, job, key)
 }
 
 // Whether what an instance waits for in a state has come.
 fn is_over<B: Book>(book: &B, job: &JobDef, key: InstanceKey, from: State) -> bool
-    ensures { (mode : Mode) (config : Configuration) (c : Chronicle) (i : ℕ) → B.stands book.now mode config c
-        → instance_place config c key ≡ Some i → result ≡ model.is_over job.now i (life.wait_in from) c }
+    ensures { (mode : Mode) (config : Configuration) → OfInstance (B.stands book.now mode) config key (λ c i.
+        result ≡ model.is_over job.now i (life.wait_in from) c) }
 {
     match from {
         State::Waiting => book.goal(key).is_start(),
@@ -86,8 +82,8 @@ fn is_over<B: Book>(book: &B, job: &JobDef, key: InstanceKey, from: State) -> bo
 }
 
 fn may_leave<B: Book>(book: &B, job: &JobDef, key: InstanceKey) -> bool
-    ensures { (mode : Mode) (config : Configuration) (c : Chronicle) (i : ℕ) → B.stands book.now mode config c
-        → instance_place config c key ≡ Some i → result ≡ model.may_leave job.now i c }
+    ensures { (mode : Mode) (config : Configuration) → OfInstance (B.stands book.now mode) config key (λ c i.
+        result ≡ model.may_leave job.now i c) }
 {
     let from = book.state_of(key);
     is_over(book, job, key, from)
@@ -105,8 +101,8 @@ fn following(goal: Goal, from: State, has_main: bool, lives: bool) -> State
 
 // The state that an instance enters next.
 fn next_of<B: Book>(book: &B, job: &JobDef, key: InstanceKey) -> State
-    ensures { (mode : Mode) (config : Configuration) (c : Chronicle) (i : ℕ) → B.stands book.now mode config c
-        → instance_place config c key ≡ Some i → result ≡ model.next_of job.now i c }
+    ensures { (mode : Mode) (config : Configuration) → OfInstance (B.stands book.now mode) config key (λ c i.
+        result ≡ model.next_of job.now i c) }
 {
     let goal = book.goal(key);
     let from = book.state_of(key);
@@ -122,15 +118,12 @@ fn order<B: Book>(
     key: InstanceKey,
     orders: Option<Process>,
 ) -> Result<(), AllocError>
-    ensures after { OnOk result ((c : Chronicle) (i : ℕ) → B.stands book.old Stepping setup.now c
-        → instance_place setup.now c key ≡ Some i
-        → read.file_of i c ≡ Some job.now
-        → B.stands book.new Stepping setup.now (model.ordering job.now i orders ++ c)) }
-    ensures events { OnOk result ((c : Chronicle) (i : ℕ) (k : EventIdValue) (j : ℕ)
-        → B.stands book.old Stepping setup.now c → instance_place setup.now c key ≡ Some i
-        → read.file_of i c ≡ Some job.now
-        → B.event_place book.old c k ≡ Some j
-        → B.event_place book.new (model.ordering job.now i orders ++ c) k ≡ Some j) }
+    ensures after { OnOk result (OfInstance (B.stands book.old Stepping) setup.now key (λ c i.
+        read.file_of i c ≡ Some job.now
+        → B.stands book.new Stepping setup.now (model.ordering job.now i orders ++ c))) }
+    ensures events { OnOk result (OfInstance (B.stands book.old Stepping) setup.now key (λ c i.
+        read.file_of i c ≡ Some job.now
+        → KeepsPlaces B.event_place book.old book.new c (model.ordering job.now i orders ++ c))) }
     ensures stays { OnOk result ((c : Chronicle) (i : ℕ)
         → instance_at setup.now (model.ordering job.now i orders ++ c) key ≡ instance_at setup.now c key) }
 {
@@ -154,16 +147,12 @@ fn emit<B: Book>(
     to: State,
     emits: Option<JobEvent>,
 ) -> Result<(), AllocError>
-    ensures after { OnOk result ((config : Configuration) (c : Chronicle) (its : Instance)
-        → B.stands book.old Stepping config c → instance_at config c key ≡ Some its
-        → B.stands book.new Stepping config
-        (model.emitting job.now (model.who_of job.now its) its.place to emits c ++ c)) }
-    ensures events { OnOk result ((config : Configuration) (c : Chronicle) (its : Instance) (k : EventIdValue)
-        (j : ℕ)
-        → B.stands book.old Stepping config c → instance_at config c key ≡ Some its
-        → B.event_place book.old c k ≡ Some j
-        → B.event_place book.new (model.emitting job.now (model.who_of job.now its) its.place to emits c ++ c)
-        k ≡ Some j) }
+    ensures after { OnOk result ((config : Configuration) → OfWhole (B.stands book.old Stepping) config key
+        (λ c its. B.stands book.new Stepping config (model.emitting job.now (model.who_of job.now its) its.place
+        to emits c ++ c))) }
+    ensures events { OnOk result ((config : Configuration) → OfWhole (B.stands book.old Stepping) config key
+        (λ c its. KeepsPlaces B.event_place book.old book.new c (model.emitting job.now (model.who_of job.now
+        its) its.place to emits c ++ c))) }
     ensures stays { OnOk result ((config : Configuration) (c : Chronicle) (its : Instance)
         → instance_at config (model.emitting job.now (model.who_of job.now its) its.place to emits c ++ c) key
         ≡ instance_at config c key) }
@@ -180,13 +169,12 @@ fn emit<B: Book>(
 
 // Sends main its signal.
 fn kill<B: Book>(book: &mut B, key: InstanceKey, signal: u8, kills: bool) -> Result<(), AllocError>
-    ensures after { OnOk result ((config : Configuration) (c : Chronicle) (i : ℕ)
-        → B.stands book.old Stepping config c → instance_place config c key ≡ Some i
-        → B.stands book.new Stepping config (entries_if kills (entry.Signalled i signal false ∷ []) ++ c)) }
-    ensures events { OnOk result ((config : Configuration) (c : Chronicle) (i : ℕ) (k : EventIdValue) (j : ℕ)
-        → B.stands book.old Stepping config c → instance_place config c key ≡ Some i
-        → B.event_place book.old c k ≡ Some j
-        → B.event_place book.new (entries_if kills (entry.Signalled i signal false ∷ []) ++ c) k ≡ Some j) }
+    ensures after { OnOk result ((config : Configuration) → OfInstance (B.stands book.old Stepping) config key
+        (λ c i.
+        B.stands book.new Stepping config (entries_if kills (entry.Signalled i signal false ∷ []) ++ c))) }
+    ensures events { OnOk result ((config : Configuration) → OfInstance (B.stands book.old Stepping) config key
+        (λ c i. KeepsPlaces B.event_place book.old book.new c (entries_if kills (entry.Signalled i signal false
+        ∷ []) ++ c))) }
     ensures stays { OnOk result ((config : Configuration) (c : Chronicle) (i : ℕ)
         → instance_at config (entries_if kills (entry.Signalled i signal false ∷ []) ++ c) key
         ≡ instance_at config c key) }
@@ -198,13 +186,11 @@ fn kill<B: Book>(book: &mut B, key: InstanceKey, signal: u8, kills: bool) -> Res
 }
 
 fn release<B: Book>(book: &mut B, key: InstanceKey, releases: bool) -> Result<(), AllocError>
-    ensures after { OnOk result ((config : Configuration) (c : Chronicle) (i : ℕ)
-        → B.stands book.old Stepping config c → instance_place config c key ≡ Some i
-        → B.stands book.new Stepping config (entries_if releases (replies.releasing i false c) ++ c)) }
-    ensures events { OnOk result ((config : Configuration) (c : Chronicle) (i : ℕ) (k : EventIdValue) (j : ℕ)
-        → B.stands book.old Stepping config c → instance_place config c key ≡ Some i
-        → B.event_place book.old c k ≡ Some j
-        → B.event_place book.new (entries_if releases (replies.releasing i false c) ++ c) k ≡ Some j) }
+    ensures after { OnOk result ((config : Configuration) → OfInstance (B.stands book.old Stepping) config key
+        (λ c i. B.stands book.new Stepping config (entries_if releases (replies.releasing i false c) ++ c))) }
+    ensures events { OnOk result ((config : Configuration) → OfInstance (B.stands book.old Stepping) config key
+        (λ c i. KeepsPlaces B.event_place book.old book.new c (entries_if releases (replies.releasing i false c)
+        ++ c))) }
 {
     if releases {
         book.release(key)?;
@@ -222,27 +208,19 @@ fn enter_with<B: Book>(
     to: State,
     table: Entry,
 ) -> Result<(), AllocError>
-    ensures after { OnOk result ((c : Chronicle) (its : Instance) → B.stands book.old Stepping setup.now c
-        → instance_at setup.now c key ≡ Some its
-        → its.file ≡ job.now → is_waiting to ≡ false
-        → B.stands book.new Stepping setup.now
-        (model.emitting job.now (model.who_of job.now its) its.place to table.emits
-        (model.ordering job.now its.place table.orders ++ entry.Entered its.place to ∷ c)
-        ++ (model.ordering job.now its.place table.orders ++ entry.Entered its.place to ∷ c))) }
-    ensures events { OnOk result ((c : Chronicle) (its : Instance) (k : EventIdValue) (j : ℕ)
-        → B.stands book.old Stepping setup.now c → instance_at setup.now c key ≡ Some its
-        → its.file ≡ job.now
-        → is_waiting to ≡ false → B.event_place book.old c k ≡ Some j
-        → B.event_place book.new (model.emitting job.now (model.who_of job.now its) its.place to table.emits
-        (model.ordering job.now its.place table.orders ++ entry.Entered its.place to ∷ c) ++ (model.ordering
-        job.now its.place table.orders ++ entry.Entered its.place to ∷ c)) k ≡ Some j) }
-    ensures stays { OnOk result ((c : Chronicle) (its : Instance) → B.stands book.old Stepping setup.now c
-        → instance_at setup.now c key ≡ Some its
-        → its.file ≡ job.now → is_waiting to ≡ false
-        → instance_at setup.now
-        (model.emitting job.now (model.who_of job.now its) its.place to table.emits
-        (model.ordering job.now its.place table.orders ++ entry.Entered its.place to ∷ c)
-        ++ (model.ordering job.now its.place table.orders ++ entry.Entered its.place to ∷ c)) key ≡ Some its) }
+    ensures after { OnOk result (OfWhole (B.stands book.old Stepping) setup.now key (λ c its.
+        its.file ≡ job.now → is_waiting to ≡ false → B.stands book.new Stepping setup.now
+        (adding (model.emitting job.now (model.who_of job.now its) its.place to table.emits)
+        (model.ordering job.now its.place table.orders ++ entry.Entered its.place to ∷ c)))) }
+    ensures events { OnOk result (OfWhole (B.stands book.old Stepping) setup.now key (λ c its.
+        its.file ≡ job.now → is_waiting to ≡ false → KeepsPlaces B.event_place book.old book.new c
+        (adding (model.emitting job.now (model.who_of job.now its) its.place to table.emits)
+        (model.ordering job.now its.place table.orders ++ entry.Entered its.place to ∷ c)))) }
+    ensures stays { OnOk result (OfWhole (B.stands book.old Stepping) setup.now key (λ c its.
+        its.file ≡ job.now → is_waiting to ≡ false → instance_at setup.now
+        (adding (model.emitting job.now (model.who_of job.now its) its.place to table.emits)
+        (model.ordering job.now its.place table.orders ++ entry.Entered its.place to ∷ c))
+        key ≡ Some its)) }
 {
     book.enter(key, to)?;
     order(setup, book, job, key, table.orders)?;
@@ -260,17 +238,12 @@ fn enter_other<B: Book>(
     to: State,
     table: Entry,
 ) -> Result<(), AllocError>
-    ensures after { OnOk result ((c : Chronicle) (its : Instance) → B.stands book.old Stepping setup.now c
-        → instance_at setup.now c key ≡ Some its
-        → its.file ≡ job.now → is_waiting to ≡ false
-        → B.stands book.new Stepping setup.now
-        (model.enter_whole job.now (model.who_of job.now its) its.place to table c ++ c)) }
-    ensures events { OnOk result ((c : Chronicle) (its : Instance) (k : EventIdValue) (j : ℕ)
-        → B.stands book.old Stepping setup.now c → instance_at setup.now c key ≡ Some its
-        → its.file ≡ job.now
-        → is_waiting to ≡ false → B.event_place book.old c k ≡ Some j
-        → B.event_place book.new (model.enter_whole job.now (model.who_of job.now its) its.place to table c ++
-        c) k ≡ Some j) }
+    ensures after { OnOk result (OfWhole (B.stands book.old Stepping) setup.now key (λ c its. its.file ≡ job.now
+        → is_waiting to ≡ false → B.stands book.new Stepping setup.now (model.enter_whole job.now (model.who_of
+        job.now its) its.place to table c ++ c))) }
+    ensures events { OnOk result (OfWhole (B.stands book.old Stepping) setup.now key (λ c its.
+        its.file ≡ job.now → is_waiting to ≡ false → KeepsPlaces B.event_place book.old book.new c
+        (model.enter_whole job.now (model.who_of job.now its) its.place to table c ++ c))) }
 {
     let lives = book.lives(key, Process::Main);
     enter_with(alloc, setup, book, job, key, to, table)?;
@@ -287,17 +260,12 @@ fn enter_waiting<B: Book>(
     key: InstanceKey,
     from: State,
 ) -> Result<(), AllocError>
-    ensures after { OnOk result ((config : Configuration) (c : Chronicle) (its : Instance)
-        → B.stands book.old Stepping config c → instance_at config c key ≡ Some its
-        → B.stands book.new Stepping config
-        (model.enter_whole job.now (model.who_of job.now its) its.place entered.Waiting
-        (life.entering entered.Waiting from job.now.task) c ++ c)) }
-    ensures events { OnOk result ((config : Configuration) (c : Chronicle) (its : Instance) (k : EventIdValue)
-        (j : ℕ)
-        → B.stands book.old Stepping config c → instance_at config c key ≡ Some its
-        → B.event_place book.old c k ≡ Some j
-        → B.event_place book.new (model.enter_whole job.now (model.who_of job.now its) its.place
-        entered.Waiting (life.entering entered.Waiting from job.now.task) c ++ c) k ≡ Some j) }
+    ensures after { OnOk result ((config : Configuration) → OfWhole (B.stands book.old Stepping) config key
+        (λ c its. B.stands book.new Stepping config (model.enter_whole job.now (model.who_of job.now its)
+        its.place entered.Waiting (life.entering entered.Waiting from job.now.task) c ++ c))) }
+    ensures events { OnOk result ((config : Configuration) → OfWhole (B.stands book.old Stepping) config key
+        (λ c its. KeepsPlaces B.event_place book.old book.new c (model.enter_whole job.now (model.who_of job.now
+        its) its.place entered.Waiting (life.entering entered.Waiting from job.now.task) c ++ c))) }
 {
     let event = job_event(alloc, book, job, key, JobEvent::Stopped)?;
     book.leave(key, event)?;
@@ -312,19 +280,12 @@ fn move_on<B: Book>(
     job: &JobDef,
     key: InstanceKey,
 ) -> Result<bool, AllocError>
-    ensures after { OnOk result ((c : Chronicle) (its : Instance) → B.stands book.old Stepping setup.now c
-        → instance_at setup.now c key ≡ Some its
-        → its.file ≡ job.now
-        → B.stands book.new Stepping setup.now (model.move job.now its c ++ c)) }
-    ensures events { OnOk result ((c : Chronicle) (its : Instance) (k : EventIdValue) (j : ℕ)
-        → B.stands book.old Stepping setup.now c → instance_at setup.now c key ≡ Some its
-        → its.file ≡ job.now
-        → B.event_place book.old c k ≡ Some j
-        → B.event_place book.new (model.move job.now its c ++ c) k ≡ Some j) }
-    ensures stays { IfOk result (λ stays. (c : Chronicle) (its : Instance) → B.stands book.old Stepping setup.now c
-        → instance_at setup.now c key ≡ Some its
-        → its.file ≡ job.now
-        → stays ≡ not (is_waiting (model.next_of job.now its.place c))) }
+    ensures after { OnOk result (OfWhole (B.stands book.old Stepping) setup.now key (λ c its. its.file ≡ job.now
+        → B.stands book.new Stepping setup.now (model.move job.now its c ++ c))) }
+    ensures events { OnOk result (OfWhole (B.stands book.old Stepping) setup.now key (λ c its.
+        its.file ≡ job.now → KeepsPlaces B.event_place book.old book.new c (model.move job.now its c ++ c))) }
+    ensures stays { IfOk result (λ stays. OfWhole (B.stands book.old Stepping) setup.now key (λ c its.
+        its.file ≡ job.now → stays ≡ not (is_waiting (model.next_of job.now its.place c)))) }
 {
     let from = book.state_of(key);
     let to = next_of(book, job, key);
@@ -352,19 +313,12 @@ pub(crate) fn moves<B: Book>(
     job: &JobDef,
     key: InstanceKey,
 ) -> Result<bool, AllocError>
-    ensures after { OnOk result ((c : Chronicle) (its : Instance) → B.stands book.old Stepping setup.now c
-        → instance_at setup.now c key ≡ Some its
-        → its.file ≡ job.now
-        → B.stands book.new Stepping setup.now (settle_one 5 job.now its c)) }
-    ensures events { OnOk result ((c : Chronicle) (its : Instance) (k : EventIdValue) (j : ℕ)
-        → B.stands book.old Stepping setup.now c → instance_at setup.now c key ≡ Some its
-        → its.file ≡ job.now
-        → B.event_place book.old c k ≡ Some j
-        → B.event_place book.new (settle_one 5 job.now its c) k ≡ Some j) }
-    ensures lists { IfOk result (λ stays. (c : Chronicle) (its : Instance) → B.stands book.old Stepping setup.now c
-        → instance_at setup.now c key ≡ Some its
-        → its.file ≡ job.now
-        → ListsAfter stays its c (settle_one 5 job.now its c)) }
+    ensures after { OnOk result (OfWhole (B.stands book.old Stepping) setup.now key (λ c its. its.file ≡ job.now
+        → B.stands book.new Stepping setup.now (settle_one 5 job.now its c))) }
+    ensures events { OnOk result (OfWhole (B.stands book.old Stepping) setup.now key (λ c its.
+        its.file ≡ job.now → KeepsPlaces B.event_place book.old book.new c (settle_one 5 job.now its c))) }
+    ensures lists { IfOk result (λ stays. OfWhole (B.stands book.old Stepping) setup.now key (λ c its.
+        its.file ≡ job.now → ListsAfter stays its c (settle_one 5 job.now its c))) }
 {
     // No instance moves more than five times before it waits.
     for turn in 0..5u8 {
@@ -380,8 +334,8 @@ pub(crate) fn moves<B: Book>(
 
 /// The job file by which an instance was made, for one more owner.
 pub(crate) fn file_of<B: Book>(book: &B, key: InstanceKey) -> Result<Option<JobFile>, AllocError>
-    ensures { IfOk result (λ file. (mode : Mode) (config : Configuration) (c : Chronicle) (its : Instance)
-        → B.stands book.now mode config c → instance_at config c key ≡ Some its → file ≡ Some its.file) }
+    ensures { IfOk result (λ file. (mode : Mode) (config : Configuration)
+        → OfWhole (B.stands book.now mode) config key (λ c its. file ≡ Some its.file)) }
 {
     match book.file(key) {
         Some(file) => Ok(Some(file.share()?)),
@@ -396,16 +350,12 @@ pub(crate) fn moves_on<B: Book>(
     book: &mut B,
     key: InstanceKey,
 ) -> Result<bool, AllocError>
-    ensures after { OnOk result ((c : Chronicle) (its : Instance) → B.stands book.old Stepping setup.now c
-        → instance_at setup.now c key ≡ Some its
-        → B.stands book.new Stepping setup.now (settle_one 5 its.file its c)) }
-    ensures events { OnOk result ((c : Chronicle) (its : Instance) (k : EventIdValue) (j : ℕ)
-        → B.stands book.old Stepping setup.now c → instance_at setup.now c key ≡ Some its
-        → B.event_place book.old c k ≡ Some j
-        → B.event_place book.new (settle_one 5 its.file its c) k ≡ Some j) }
-    ensures lists { IfOk result (λ stays. (c : Chronicle) (its : Instance) → B.stands book.old Stepping setup.now c
-        → instance_at setup.now c key ≡ Some its
-        → ListsAfter stays its c (settle_one 5 its.file its c)) }
+    ensures after { OnOk result (OfWhole (B.stands book.old Stepping) setup.now key (λ c its.
+        B.stands book.new Stepping setup.now (settle_one 5 its.file its c))) }
+    ensures events { OnOk result (OfWhole (B.stands book.old Stepping) setup.now key (λ c its.
+        KeepsPlaces B.event_place book.old book.new c (settle_one 5 its.file its c))) }
+    ensures lists { IfOk result (λ stays. OfWhole (B.stands book.old Stepping) setup.now key (λ c its.
+        ListsAfter stays its c (settle_one 5 its.file its c))) }
 {
     match file_of(book, key)? {
         Some(file) => {

@@ -1,19 +1,17 @@
 //! How the event of a turn is offered to the expressions, and what one does that fires.
-ghost use Rattle.std.specs.Prelude.{◌≡◌, ℕ, nat_lt, length, false, not, List, ◌∷◌, [], ◌++◌, map, Option, None, Some, option_map, IfOk, OnOk};
-ghost use Rattle.up_model.specs.declared.event_id.EventId.{EventId as EventIdValue};
-ghost use Rattle.up_book.specs.Keys.{job_at, Mode, Stepping, held_as, request_place, name_at, instance_place};
+ghost use Rattle.std.specs.Prelude.{◌≡◌, ℕ, nat_lt, length, List, ◌++◌, map, None, Some, IfOk, OnOk};
+ghost use Rattle.up_book.specs.Histories.{HoldersAt, KeepsPlaces, OfInstance};
+ghost use Rattle.up_book.specs.Keys.{called, job_at, Mode, Stepping, name_at, instance_place};
 ghost use Rattle.up_model.specs.Chronicle.{Chronicle};
-ghost use Rattle.up_model.specs.Chronicle as entry;
 ghost use Rattle.up_model.specs.Configuration.{Configuration};
 ghost use Rattle.up_conf.specs.declared.job.JobDef.{JobDef as JobValue};
 ghost use Rattle.up_model.specs.declared.who.Who.{Who as WhoValue};
 ghost use Rattle.up_model.specs.Environments as environments;
-ghost use Rattle.up_model.specs.Instances as model_instances;
+ghost use Rattle.up_model.specs.Instances.{instance_named, instances_of};
+ghost use Rattle.up_cascade.specs.Offering.{after_start_on, after_stop_on};
 ghost use Rattle.up_model.specs.Offers as model;
-ghost use Rattle.up_model.specs.Seen.{seen, taken};
 ghost use Rattle.up_model.specs.Readings as read;
 ghost use Rattle.up_model.specs.Values.{Bytes};
-ghost use Rattle.up_text.specs.Scripts.{is_filled};
 
 use crate::environment::start_env;
 use crate::events::{add_instance, events_env, stop_env};
@@ -23,7 +21,7 @@ use up_book::{Book, Holders};
 use up_image::JobFile;
 use up_job::InstanceKey;
 use up_model::{EventId, Goal, JobDef, MAX_INSTANCES};
-use up_text::{Env, Expanded, Items, Name, Text, TextFault, expand};
+use up_text::{Env, Expanded, Items, Text, TextFault, expand};
 
 /// The goal becomes stop, with this environment and these holders.
 pub fn stop_of<B: Book>(
@@ -33,16 +31,13 @@ pub fn stop_of<B: Book>(
     holders: Holders,
 ) -> Result<(), AllocError>
     ensures after { OnOk result ((config : Configuration) (c : Chronicle) (i : ℕ) (places : List ℕ)
-        → B.stands book.old Stepping config c
-        → instance_place config c key ≡ Some i
-        → held_as (B.event_place book.old c) (request_place c) holders ≡ map Some places
+        → B.stands book.old Stepping config c → instance_place config c key ≡ Some i
+        → HoldersAt (B.event_place book.old) holders places c
         → B.stands book.new Stepping config (model.stop_of i environment places c ++ c)) }
     ensures events { OnOk result ((config : Configuration) (c : Chronicle) (i : ℕ) (places : List ℕ)
-        (k : EventIdValue) (j : ℕ)
         → B.stands book.old Stepping config c → instance_place config c key ≡ Some i
-        → held_as (B.event_place book.old c) (request_place c) holders ≡ map Some places
-        → B.event_place book.old c k ≡ Some j
-        → B.event_place book.new (model.stop_of i environment places c ++ c) k ≡ Some j) }
+        → HoldersAt (B.event_place book.old) holders places c
+        → KeepsPlaces B.event_place book.old book.new c (model.stop_of i environment places c ++ c)) }
 {
     book.release(key)?;
     book.aim(key, Goal::Stop, environment, holders)?;
@@ -61,10 +56,9 @@ fn stop_by<B: Book>(
         → instance_place config c key ≡ Some i → map (B.event_place book.old c) holders ≡ map Some events
         → B.stands book.new Stepping config (model.stop_by i events c ++ c)) }
     ensures events { OnOk result ((config : Configuration) (c : Chronicle) (i : ℕ) (events : List ℕ)
-        (k : EventIdValue) (j : ℕ)
         → B.stands book.old Stepping config c → instance_place config c key ≡ Some i
-        → map (B.event_place book.old c) holders ≡ map Some events → B.event_place book.old c k ≡ Some j
-        → B.event_place book.new (model.stop_by i events c ++ c) k ≡ Some j) }
+        → map (B.event_place book.old c) holders ≡ map Some events
+        → KeepsPlaces B.event_place book.old book.new c (model.stop_by i events c ++ c)) }
 {
     if book.goal(key).is_start() {
         let environment = stop_env(alloc, book, holders.as_slice())?;
@@ -81,20 +75,11 @@ fn stop_fires<B: Book>(
     job: &JobDef,
     key: InstanceKey,
 ) -> Result<(), AllocError>
-    ensures after { OnOk result ((c : Chronicle) (i : ℕ) → B.stands book.old Stepping setup.now c
-        → instance_place setup.now c key ≡ Some i
-        → read.file_of i c ≡ Some job.now
-        → B.stands book.new Stepping setup.now
-        (model.stop_by i (taken job.now.stop_on (seen setup.now (entry.StopOn i) c))
-        (entry.Fired (entry.StopOn i) (taken job.now.stop_on (seen setup.now (entry.StopOn i) c)) ∷ c)
-        ++ entry.Fired (entry.StopOn i) (taken job.now.stop_on (seen setup.now (entry.StopOn i) c)) ∷ c)) }
-    ensures events { OnOk result ((c : Chronicle) (i : ℕ) (k : EventIdValue) (j : ℕ)
-        → B.stands book.old Stepping setup.now c → instance_place setup.now c key ≡ Some i
-        → read.file_of i c ≡ Some job.now
-        → B.event_place book.old c k ≡ Some j
-        → B.event_place book.new (model.stop_by i (taken job.now.stop_on (seen setup.now (entry.StopOn i) c))
-        (entry.Fired (entry.StopOn i) (taken job.now.stop_on (seen setup.now (entry.StopOn i) c)) ∷ c) ++
-        entry.Fired (entry.StopOn i) (taken job.now.stop_on (seen setup.now (entry.StopOn i) c)) ∷ c) k ≡ Some j) }
+    ensures after { OnOk result (OfInstance (B.stands book.old Stepping) setup.now key (λ c i.
+        read.file_of i c ≡ Some job.now → B.stands book.new Stepping setup.now (after_stop_on setup.now job.now i c))) }
+    ensures events { OnOk result (OfInstance (B.stands book.old Stepping) setup.now key (λ c i.
+        read.file_of i c ≡ Some job.now → KeepsPlaces B.event_place book.old book.new c
+        (after_stop_on setup.now job.now i c))) }
 {
     let holders = book.fire_stop(job, key)?;
     stop_by(alloc, book, key, holders)?;
@@ -114,11 +99,10 @@ pub(crate) fn offer_stop<B: Book>(
         → instance_place setup.now c key ≡ Some i
         → read.file_of i c ≡ Some file.now → B.event_place book.old c event ≡ Some e
         → B.stands book.new Stepping setup.now (model.stop_offer setup.now file.now i e c ++ c)) }
-    ensures events { OnOk result ((c : Chronicle) (i e : ℕ) (k : EventIdValue) (j : ℕ)
-        → B.stands book.old Stepping setup.now c → instance_place setup.now c key ≡ Some i
-        → read.file_of i c ≡ Some file.now
-        → B.event_place book.old c event ≡ Some e → B.event_place book.old c k ≡ Some j
-        → B.event_place book.new (model.stop_offer setup.now file.now i e c ++ c) k ≡ Some j) }
+    ensures events { OnOk result ((c : Chronicle) (i e : ℕ) → B.stands book.old Stepping setup.now c
+        → instance_place setup.now c key ≡ Some i → read.file_of i c ≡ Some file.now
+        → B.event_place book.old c event ≡ Some e
+        → KeepsPlaces B.event_place book.old book.new c (model.stop_offer setup.now file.now i e c ++ c)) }
 {
     let holds = book.offer_stop(file, key, event)?;
     if holds {
@@ -135,16 +119,13 @@ fn start_old<B: Book>(
     holders: Holders,
 ) -> Result<(), AllocError>
     ensures after { OnOk result ((config : Configuration) (c : Chronicle) (job : JobValue) (who : WhoValue) (i : ℕ)
-        (places : List ℕ) → B.stands book.old Stepping config c
-        → instance_place config c key ≡ Some i
-        → held_as (B.event_place book.old c) (request_place c) holders ≡ map Some places
+        (places : List ℕ) → B.stands book.old Stepping config c → instance_place config c key ≡ Some i
+        → HoldersAt (B.event_place book.old) holders places c
         → B.stands book.new Stepping config (model.start_of job who environment places (Some i) c ++ c)) }
     ensures events { OnOk result ((config : Configuration) (c : Chronicle) (job : JobValue) (who : WhoValue) (i : ℕ)
-        (places : List ℕ) (k : EventIdValue) (j : ℕ)
-        → B.stands book.old Stepping config c → instance_place config c key ≡ Some i
-        → held_as (B.event_place book.old c) (request_place c) holders ≡ map Some places
-        → B.event_place book.old c k ≡ Some j
-        → B.event_place book.new (model.start_of job who environment places (Some i) c ++ c) k ≡ Some j) }
+        (places : List ℕ) → B.stands book.old Stepping config c → instance_place config c key ≡ Some i
+        → HoldersAt (B.event_place book.old) holders places c → KeepsPlaces B.event_place book.old book.new c
+        (model.start_of job who environment places (Some i) c ++ c)) }
 {
     if !book.goal(key).is_start() {
         book.release(key)?;
@@ -157,7 +138,7 @@ fn start_old<B: Book>(
 pub fn has_room<B: Book>(book: &B, job: usize) -> bool
     ensures { (mode : Mode) (config : Configuration) (c : Chronicle) (its : Bytes)
         → B.stands book.now mode config c → name_at config job ≡ Some its
-        → result ≡ nat_lt (length (model_instances.instances_of its c)) model.max_instances }
+        → result ≡ nat_lt (length (instances_of its c)) model.max_instances }
 {
     book.count(job) < MAX_INSTANCES
 }
@@ -173,18 +154,14 @@ fn start_new<B: Book>(
 ) -> Result<(), AllocError>
     ensures after { OnOk result ((config : Configuration) (c : Chronicle) (places : List ℕ)
         → B.stands book.old Stepping config c → job_at config index ≡ Some file.now
-        → model_instances.instance_named (record { job = file.now.name; instance = name.now }) c ≡ None
-        → held_as (B.event_place book.old c) (request_place c) holders ≡ map Some places
-        → B.stands book.new Stepping config (model.start_of file.now
-        (record { job = file.now.name; instance = name.now }) environment places None c ++ c)) }
+        → instance_named (called file.now.name name.now) c ≡ None
+        → HoldersAt (B.event_place book.old) holders places c
+        → B.stands book.new Stepping config (model.start_of file.now (called file.now.name name.now) environment places None c ++ c)) }
     ensures events { OnOk result ((config : Configuration) (c : Chronicle) (places : List ℕ)
-        (k : EventIdValue) (j : ℕ)
         → B.stands book.old Stepping config c → job_at config index ≡ Some file.now
-        → model_instances.instance_named (record { job = file.now.name; instance = name.now }) c ≡ None
-        → held_as (B.event_place book.old c) (request_place c) holders ≡ map Some places
-        → B.event_place book.old c k ≡ Some j
-        → B.event_place book.new (model.start_of file.now (record { job = file.now.name; instance = name.now }) environment places
-        None c ++ c) k ≡ Some j) }
+        → instance_named (called file.now.name name.now) c ≡ None
+        → HoldersAt (B.event_place book.old) holders places c → KeepsPlaces B.event_place book.old book.new c
+        (model.start_of file.now (called file.now.name name.now) environment places None c ++ c)) }
 {
     if has_room(book, index) {
         let key = book.make(index, file, name)?;
@@ -204,17 +181,14 @@ fn start_of<B: Book>(
 ) -> Result<(), AllocError>
     ensures after { OnOk result ((config : Configuration) (c : Chronicle) (places : List ℕ)
         → B.stands book.old Stepping config c → job_at config index ≡ Some file.now
-        → held_as (B.event_place book.old c) (request_place c) holders ≡ map Some places
-        → B.stands book.new Stepping config
-        (model.start_of file.now (record { job = file.now.name; instance = name.now }) environment places
-        (model_instances.instance_named (record { job = file.now.name; instance = name.now }) c) c ++ c)) }
+        → HoldersAt (B.event_place book.old) holders places c
+        → B.stands book.new Stepping config (model.start_of file.now (called file.now.name name.now) environment places
+        (instance_named (called file.now.name name.now) c) c ++ c)) }
     ensures events { OnOk result ((config : Configuration) (c : Chronicle) (places : List ℕ)
-        (k : EventIdValue) (j : ℕ)
         → B.stands book.old Stepping config c → job_at config index ≡ Some file.now
-        → held_as (B.event_place book.old c) (request_place c) holders ≡ map Some places
-        → B.event_place book.old c k ≡ Some j
-        → B.event_place book.new (model.start_of file.now (record { job = file.now.name; instance = name.now }) environment places
-        (model_instances.instance_named (record { job = file.now.name; instance = name.now }) c) c ++ c) k ≡ Some j) }
+        → HoldersAt (B.event_place book.old) holders places c → KeepsPlaces B.event_place book.old book.new c
+        (model.start_of file.now (called file.now.name name.now) environment places
+        (instance_named (called file.now.name name.now) c) c ++ c)) }
 {
     match book.find(index, name) {
         Some(key) => start_old(book, key, environment, holders)?,
@@ -234,16 +208,14 @@ pub fn start_called<B: Book>(
 ) -> Result<(), AllocError>
     ensures after { OnOk result ((config : Configuration) (c : Chronicle) (places : List ℕ)
         → B.stands book.old Stepping config c → job_at config index ≡ Some file.now
-        → held_as (B.event_place book.old c) (request_place c) holders ≡ map Some places
+        → HoldersAt (B.event_place book.old) holders places c
         → B.stands book.new Stepping config (model.start_who file.now environment places
         (model.who_called file.now.name (Some name.now)) c ++ c)) }
     ensures events { OnOk result ((config : Configuration) (c : Chronicle) (places : List ℕ)
-        (k : EventIdValue) (j : ℕ)
         → B.stands book.old Stepping config c → job_at config index ≡ Some file.now
-        → held_as (B.event_place book.old c) (request_place c) holders ≡ map Some places
-        → B.event_place book.old c k ≡ Some j
-        → B.event_place book.new (model.start_who file.now environment places (model.who_called file.now.name (Some name.now))
-        c ++ c) k ≡ Some j) }
+        → HoldersAt (B.event_place book.old) holders places c → KeepsPlaces B.event_place book.old book.new c
+        (model.start_who file.now environment places
+        (model.who_called file.now.name (Some name.now)) c ++ c)) }
 {
     add_instance(&mut environment, &file.job().name, name)?;
     start_of(book, index, file, name, environment, holders)?;
@@ -276,10 +248,9 @@ fn start_by<B: Book>(
         → job_at setup.now index ≡ Some file.now
         → map (B.event_place book.old c) holders ≡ map Some events
         → B.stands book.new Stepping setup.now (model.start_by setup.now file.now events c ++ c)) }
-    ensures events { OnOk result ((c : Chronicle) (events : List ℕ) (k : EventIdValue) (j : ℕ)
-        → B.stands book.old Stepping setup.now c → job_at setup.now index ≡ Some file.now
-        → map (B.event_place book.old c) holders ≡ map Some events → B.event_place book.old c k ≡ Some j
-        → B.event_place book.new (model.start_by setup.now file.now events c ++ c) k ≡ Some j) }
+    ensures events { OnOk result ((c : Chronicle) (events : List ℕ) → B.stands book.old Stepping setup.now c
+        → job_at setup.now index ≡ Some file.now → map (B.event_place book.old c) holders ≡ map Some events
+        → KeepsPlaces B.event_place book.old book.new c (model.start_by setup.now file.now events c ++ c)) }
 {
     let base = setup.environment_at(index);
     let environment = events_env(alloc, base, book, holders.as_slice())?;
@@ -313,20 +284,10 @@ fn start_fires<B: Book>(
 ) -> Result<(), AllocError>
     ensures after { OnOk result ((c : Chronicle) → B.stands book.old Stepping setup.now c
         → job_at setup.now index ≡ Some file.now
-        → B.stands book.new Stepping setup.now
-        (model.start_by setup.now file.now
-        (taken file.now.start_on (seen setup.now (entry.StartOn file.now.name) c))
-        (entry.Fired (entry.StartOn file.now.name)
-        (taken file.now.start_on (seen setup.now (entry.StartOn file.now.name) c)) ∷ c)
-        ++ entry.Fired (entry.StartOn file.now.name)
-        (taken file.now.start_on (seen setup.now (entry.StartOn file.now.name) c)) ∷ c)) }
-    ensures events { OnOk result ((c : Chronicle) (k : EventIdValue) (j : ℕ)
-        → B.stands book.old Stepping setup.now c → job_at setup.now index ≡ Some file.now
-        → B.event_place book.old c k ≡ Some j
-        → B.event_place book.new (model.start_by setup.now file.now (taken file.now.start_on (seen setup.now
-        (entry.StartOn file.now.name) c)) (entry.Fired (entry.StartOn file.now.name) (taken file.now.start_on
-        (seen setup.now (entry.StartOn file.now.name) c)) ∷ c) ++ entry.Fired (entry.StartOn file.now.name)
-        (taken file.now.start_on (seen setup.now (entry.StartOn file.now.name) c)) ∷ c) k ≡ Some j) }
+        → B.stands book.new Stepping setup.now (after_start_on setup.now file.now c)) }
+    ensures events { OnOk result ((c : Chronicle) → B.stands book.old Stepping setup.now c
+        → job_at setup.now index ≡ Some file.now → KeepsPlaces B.event_place book.old book.new c
+        (after_start_on setup.now file.now c)) }
 {
     let holders = book.fire_start(index, file.job())?;
     start_by(alloc, setup, book, index, file, holders)?;
@@ -346,10 +307,9 @@ pub(crate) fn offer_start<B: Book>(
         → job_at setup.now index ≡ Some file.now
         → B.event_place book.old c event ≡ Some e
         → B.stands book.new Stepping setup.now (model.start_offer setup.now file.now e c ++ c)) }
-    ensures events { OnOk result ((c : Chronicle) (e : ℕ) (k : EventIdValue) (j : ℕ)
-        → B.stands book.old Stepping setup.now c → job_at setup.now index ≡ Some file.now
-        → B.event_place book.old c event ≡ Some e → B.event_place book.old c k ≡ Some j
-        → B.event_place book.new (model.start_offer setup.now file.now e c ++ c) k ≡ Some j) }
+    ensures events { OnOk result ((c : Chronicle) (e : ℕ) → B.stands book.old Stepping setup.now c
+        → job_at setup.now index ≡ Some file.now → B.event_place book.old c event ≡ Some e
+        → KeepsPlaces B.event_place book.old book.new c (model.start_offer setup.now file.now e c ++ c)) }
 {
     let holds = book.offer_start(index, file.job(), setup.environment_at(index), event)?;
     if holds {

@@ -1,10 +1,10 @@
 //! What is due is done until nothing is.
-ghost use Rattle.std.specs.Prelude.{◌≡◌, ℕ, ◌++◌, Some, OnOk};
-ghost use Rattle.up_model.specs.declared.event_id.EventId.{EventId as EventIdValue};
-ghost use Rattle.up_book.specs.Keys.{Stepping, name_at, instance_at};
+ghost use Rattle.std.specs.Prelude.{◌≡◌, ◌++◌, Some, OnOk};
+ghost use Rattle.up_book.specs.Histories.{KeepsPlaces, OfWhole};
+ghost use Rattle.up_book.specs.Keys.{Stepping, name_at};
 ghost use Rattle.up_cascade.specs.Settling as settling;
 ghost use Rattle.up_model.specs.Chronicle.{Chronicle};
-ghost use Rattle.up_model.specs.Instances.{Instance, instances_of};
+ghost use Rattle.up_model.specs.Instances.{instances_of};
 ghost use Rattle.up_model.specs.Replies.{answering_last};
 ghost use Rattle.up_model.specs.Values.{Bytes};
 
@@ -24,10 +24,9 @@ pub(crate) fn settle_each<B: Book>(
     ensures after { OnOk result ((c : Chronicle) (name : Bytes) → B.stands book.old Stepping setup.now c
         → name_at setup.now index ≡ Some name
         → B.stands book.new Stepping setup.now (settling.settle_each (instances_of name c) c)) }
-    ensures events { OnOk result ((c : Chronicle) (name : Bytes) (k : EventIdValue) (j : ℕ)
-        → B.stands book.old Stepping setup.now c → name_at setup.now index ≡ Some name
-        → B.event_place book.old c k ≡ Some j
-        → B.event_place book.new (settling.settle_each (instances_of name c) c) k ≡ Some j) }
+    ensures events { OnOk result ((c : Chronicle) (name : Bytes) → B.stands book.old Stepping setup.now c
+        → name_at setup.now index ≡ Some name
+        → KeepsPlaces B.event_place book.old book.new c (settling.settle_each (instances_of name c) c)) }
 {
     let mut at = 0;
     for turn in 0..book.count(index) {
@@ -69,10 +68,9 @@ pub fn settle_alone<B: Book>(
     book: &mut B,
     key: InstanceKey,
 ) -> Result<(), AllocError>
-    ensures { OnOk result ((c : Chronicle) (its : Instance) → B.stands book.old Stepping setup.now c
-        → instance_at setup.now c key ≡ Some its
-        → B.stands book.new Stepping setup.now (answering_last (settling.settle_one 5 its.file its c)
-        ++ settling.settle_one 5 its.file its c)) }
+    ensures { OnOk result (OfWhole (B.stands book.old Stepping) setup.now key (λ c its. B.stands book.new
+        Stepping setup.now (answering_last (settling.settle_one 5 its.file its c) ++ settling.settle_one 5
+        its.file its c))) }
 {
     moves_on(alloc, setup, book, key)?;
     book.reply_last()?;

@@ -16,7 +16,7 @@ ghost use Rattle.up_model.specs.Instances.{instances_of};
 ghost use Rattle.up_model.specs.Values.{Bytes};
 ghost use Rattle.up_text.specs.Scripts.{is_filled};
 ghost use Rattle.up_model.specs.Loads.{goes_on, going_on, with_jobs, without_start};
-ghost use Rattle.up_model.specs.Environments.{with_value, setting_value, with_settings, job_env, env_by_job, env_of_job};
+ghost use Rattle.up_model.specs.Environments.{with_value, setting_value, with_settings, job_env, env_of_job};
 
 use std::alloc::{AllocError, Global};
 use std::marker::Model;
@@ -37,7 +37,7 @@ pub struct Setup {
 
 impl Model for Setup {
     ghost use Rattle.std.specs.Prelude.{◌≡◌, map};
-    ghost use Rattle.std.specs.Coded.{codes, coded_list};
+    ghost use Rattle.std.specs.Coded.{codes};
     ghost use Rattle.up_conf.specs.contracts.job.JobDef as job;
     ghost use Rattle.up_cascade.specs.Naming.{name_of};
     ghost use Rattle.up_job.specs.Named.{AreInOrder};

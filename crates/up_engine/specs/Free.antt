@@ -8,11 +8,12 @@ use Rattle.up_model.specs.Answers.{after_all}
 use Rattle.up_model.specs.Chronicle.{Chronicle, Given}
 use Rattle.up_model.specs.Clock.{all_overdue}
 use Rattle.up_model.specs.Configuration.{Configuration}
-use Rattle.up_model.specs.Due.{turn_event}
+use Rattle.up_book.specs.Histories.{adding}
+use Rattle.up_model.specs.Due.{turn_event, turn_of}
 use Rattle.up_model.specs.Files.{names_in_order}
 use Rattle.up_model.specs.Held.{is_spoilt}
 use Rattle.up_model.specs.Loads.{in_force}
-use Rattle.up_model.specs.Queue.{Live, queue}
+use Rattle.up_model.specs.Queue.{Live, live_at, queue}
 use Rattle.up_model.specs.Readings.{blocker, event_at}
 use Rattle.up_model.specs.Replies.{waiter}
 use Rattle.up_engine.specs.declared.due.Concern.{Concern}
@@ -24,6 +25,14 @@ pub record EndsUnseen (event : ℕ) (c : Chronicle) : Type 0 where
   pub unspoilt : is_spoilt event c ≡ false
   pub unasked : waiter event c ≡ None
   pub unblocking : (i : ℕ) → blocker i c ≡ Some event → ⊥
+
+-- a turn takes this event up, or, if it was taken up before, finishes it
+abbrev pub IsTurnOf : Configuration → (event : ℕ) → (handled : Bool) → Chronicle → Type 0
+IsTurnOf config event handled c = turn_event config (queue c) c ≡ Some (live_at event handled)
+
+-- the history after it
+abbrev pub after_turn : (event : ℕ) → (handled : Bool) → Chronicle → Chronicle
+after_turn event handled c = adding (turn_of (Some (live_at event handled))) (Given input.Turn ∷ c)
 
 -- a turn takes an event up of which no job hears, or, if it was taken up before, finishes one of which nobody is told
 abbrev pub IsFreeOf : Configuration → (event : ℕ) → (handled : Bool) → Chronicle → Type 0

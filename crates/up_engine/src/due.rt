@@ -1,9 +1,10 @@
 //! What is due, the effect of an input, and whether it is expected.
-ghost use Rattle.std.specs.Prelude.{◌≡◌, ℕ, true, false, List, ◌∷◌, [], ◌++◌, map, Option, Some, option_map, IsOk, IsOkAnd, IfOk, OnOk};
+ghost use Rattle.std.specs.Prelude.{◌≡◌, ℕ, true, false, ◌∷◌, ◌++◌, Some, option_map, IsOk, IsOkAnd, IfOk, OnOk};
 ghost use Rattle.up_book.specs.Keys.{Mode, Resting, Stepping, instance_place};
 ghost use Rattle.up_book.specs.Keeps.{AreDistinct};
+ghost use Rattle.up_book.specs.Histories.{OfEvent, adding};
 ghost use Rattle.up_engine.specs.Effects.{Concerns, concern_of, unblocked_concern};
-ghost use Rattle.up_engine.specs.Free.{ConcernsNone, EndsUnseen, IsFree, IsFreeOf, TurnIsFree};
+ghost use Rattle.up_engine.specs.Free.{ConcernsNone, EndsUnseen, IsFree, IsFreeOf, IsTurnOf, TurnIsFree, after_turn};
 ghost use Rattle.up_model.specs.declared.input.Input.TheVariants as given_as;
 ghost use Rattle.up_book.specs.Turning.{is_finish};
 ghost use Rattle.up_model.specs.Answers as answer;
@@ -15,7 +16,6 @@ ghost use Rattle.up_model.specs.Loads.{is_load};
 ghost use Rattle.up_model.specs.Held as held;
 ghost use Rattle.up_model.specs.Instances.{instance_named};
 ghost use Rattle.up_model.specs.Queue as queue;
-ghost use Rattle.up_text.specs.Scripts.{is_filled};
 
 use crate::judgement::{conclude, verdict_on};
 use crate::requests::take_request;
@@ -204,22 +204,16 @@ fn unblocked_concern(on: Option<InstanceKey>) -> Concern
 
 #[tactic(auto, using(up_cascade::proofs::Entries::finishing_last))]
 fn finish<B: Book>(alloc: Global, book: &mut B, key: EventId) -> Result<Concern, AllocError>
-    ensures after { OnOk result ((config : Configuration) (c : Chronicle) (e : ℕ)
-        → B.stands book.old Resting config c
-        → B.event_place book.old c key ≡ Some e → held.is_held config e c ≡ false
-        → B.stands book.new Stepping config (model.finishing e (entry.Given given_as.Turn ∷ c)
-        ++ entry.Given given_as.Turn ∷ c)) }
-    ensures concerns { IfOk result (λ concern. (config : Configuration) (c : Chronicle) (e : ℕ)
-        → AreDistinct config.jobs → B.stands book.old Resting config c
-        → B.event_place book.old c key ≡ Some e → held.is_held config e c ≡ false
-        → model.turn_event config (queue.queue c) c ≡ Some (queue.live_at e true)
-        → Concerns (B.event_place book.new) concern config given_as.Turn c) }
-    ensures free { (config : Configuration) (c : Chronicle) (e : ℕ)
-        → B.stands book.old Resting config c
-        → B.event_place book.old c key ≡ Some e → held.is_held config e c ≡ false
-        → EndsUnseen e (entry.Given given_as.Turn ∷ c)
-        → IsOkAnd result (ConcernsNone (B.event_place book.new) config
-        (model.finishing e (entry.Given given_as.Turn ∷ c) ++ entry.Given given_as.Turn ∷ c)) }
+    ensures after { OnOk result ((config : Configuration)
+        → OfEvent (B.stands book.old Resting) (B.event_place book.old) config key (λ c e. held.is_held config e c ≡ false
+        → B.stands book.new Stepping config (adding (model.finishing e) (entry.Given given_as.Turn ∷ c)))) }
+    ensures concerns { IfOk result (λ concern. (config : Configuration) → AreDistinct config.jobs
+        → OfEvent (B.stands book.old Resting) (B.event_place book.old) config key (λ c e. held.is_held config e c ≡ false
+        → IsTurnOf config e true c → Concerns (B.event_place book.new) concern config given_as.Turn c)) }
+    ensures free { (config : Configuration)
+        → OfEvent (B.stands book.old Resting) (B.event_place book.old) config key (λ c e. held.is_held config e c ≡ false
+        → EndsUnseen e (entry.Given given_as.Turn ∷ c) → IsOkAnd result (ConcernsNone (B.event_place book.new) config
+        (adding (model.finishing e) (entry.Given given_as.Turn ∷ c)))) }
 {
     book.begin_step(&Input::Turn, None);
     let told = failed_event_of(alloc, book, key)?;
@@ -228,14 +222,12 @@ fn finish<B: Book>(alloc: Global, book: &mut B, key: EventId) -> Result<Concern,
 }
 
 fn handle<B: Book>(book: &mut B, key: EventId)
-    ensures after { (config : Configuration) (c : Chronicle) (e : ℕ)
-        → B.stands book.old Resting config c
-        → B.event_place book.old c key ≡ Some e
-        → B.stands book.new Stepping config (entry.Handled e ∷ entry.Given given_as.Turn ∷ c) }
-    ensures events { (config : Configuration) (c : Chronicle) (e : ℕ)
-        → B.stands book.old Resting config c
-        → B.event_place book.old c key ≡ Some e
-        → B.event_place book.new (entry.Handled e ∷ entry.Given given_as.Turn ∷ c) key ≡ Some e }
+    ensures after { (config : Configuration)
+        → OfEvent (B.stands book.old Resting) (B.event_place book.old) config key
+        (λ c e. B.stands book.new Stepping config (entry.Handled e ∷ entry.Given given_as.Turn ∷ c)) }
+    ensures events { (config : Configuration)
+        → OfEvent (B.stands book.old Resting) (B.event_place book.old) config key
+        (λ c e. B.event_place book.new (entry.Handled e ∷ entry.Given given_as.Turn ∷ c) key ≡ Some e) }
 {
     book.begin_step(&Input::Turn, None);
     book.handle(key)
@@ -249,25 +241,19 @@ fn turn_by<B: Book>(
     id: EventId,
     kind: TurnKind,
 ) -> Result<Concern, AllocError>
-    ensures after { OnOk result ((config : Configuration) (c : Chronicle) (e : ℕ)
-        → B.stands book.old Resting config c
-        → B.event_place book.old c id ≡ Some e
-        → model.turn_event config (queue.queue c) c ≡ Some (queue.live_at e (is_finish kind))
-        → B.stands book.new Stepping config (model.turn_of (Some (queue.live_at e (is_finish kind)))
-        (entry.Given given_as.Turn ∷ c) ++ entry.Given given_as.Turn ∷ c)) }
-    ensures concerns { IfOk result (λ concern. (config : Configuration) (c : Chronicle) (e : ℕ)
-        → AreDistinct config.jobs → B.stands book.old Resting config c
-        → B.event_place book.old c id ≡ Some e
-        → model.turn_event config (queue.queue c) c ≡ Some (queue.live_at e (is_finish kind))
-        → Concerns (B.event_place book.new) concern config given_as.Turn c) }
-    ensures free { (config : Configuration) (c : Chronicle) (e : ℕ)
-        → B.stands book.old Resting config c
-        → B.event_place book.old c id ≡ Some e
-        → model.turn_event config (queue.queue c) c ≡ Some (queue.live_at e (is_finish kind))
+    ensures after { OnOk result ((config : Configuration)
+        → OfEvent (B.stands book.old Resting) (B.event_place book.old) config id
+        (λ c e. IsTurnOf config e (is_finish kind) c → B.stands book.new Stepping config
+        (after_turn e (is_finish kind) c))) }
+    ensures concerns { IfOk result (λ concern. (config : Configuration) → AreDistinct config.jobs
+        → OfEvent (B.stands book.old Resting) (B.event_place book.old) config id (λ c e.
+        IsTurnOf config e (is_finish kind) c → Concerns (B.event_place book.new) concern config given_as.Turn c)) }
+    ensures free { (config : Configuration)
+        → OfEvent (B.stands book.old Resting) (B.event_place book.old) config id
+        (λ c e. IsTurnOf config e (is_finish kind) c
         → IsFreeOf config e (is_finish kind) (entry.Given given_as.Turn ∷ c)
         → IsOkAnd result (ConcernsNone (B.event_place book.new) config
-        (model.turn_of (Some (queue.live_at e (is_finish kind))) (entry.Given given_as.Turn ∷ c)
-        ++ entry.Given given_as.Turn ∷ c)) }
+        (after_turn e (is_finish kind) c))) }
 {
     match kind {
         TurnKind::Finish => {

@@ -1,5 +1,5 @@
 //! The engine: one step for one input, and a run over a list of them.
-ghost use Rattle.std.specs.Prelude.{◌≡◌, ◌++◌, IsOk, List, ℕ, true, false, Ok, Err, [], length, is_some, Some, IsOkAnd, IfOk, OnOk};
+ghost use Rattle.std.specs.Prelude.{◌≡◌, ◌++◌, IsOk, true, false, Ok, Err, [], length, is_some, Some, IsOkAnd, IfOk, OnOk};
 ghost use Rattle.up_book.specs.Keys.{Resting, Stepping};
 ghost use Rattle.up_engine.specs.Free.{IsFree, StopsAtNoFree};
 ghost use Rattle.up_engine.specs.Requests.{answer_of};

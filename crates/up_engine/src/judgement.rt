@@ -1,5 +1,5 @@
 //! What the end or the refusal of a process does to its instance.
-ghost use Rattle.std.specs.Prelude.{◌≡◌, ℕ, List, ◌++◌, map, Option, None, Some, IfOk, OnOk};
+ghost use Rattle.std.specs.Prelude.{◌≡◌, ℕ, List, ◌++◌, Option, None, Some, OnOk};
 ghost use Rattle.up_book.specs.Keys.{Mode, Stepping, name_at, instance_place};
 ghost use Rattle.up_engine.specs.Effects.{Judges};
 ghost use Rattle.std.specs.List.{list_any};
@@ -7,7 +7,6 @@ ghost use Rattle.up_stanza.specs.Exits.{same_exit};
 ghost use Rattle.up_model.specs.Chronicle.{Chronicle, Entry as EntryValue};
 ghost use Rattle.up_model.specs.Configuration.{Configuration, job_named};
 ghost use Rattle.up_model.specs.Due.{end_of, end_by};
-ghost use Rattle.up_model.specs.Instances.{instance_named};
 ghost use Rattle.up_model.specs.Readings as read;
 ghost use Rattle.up_model.specs.Judgement as model;
 

@@ -1,10 +1,11 @@
 //! What the requests of clients do (initctl(8)).
-ghost use Rattle.std.specs.Prelude.{option_map, ◌≡◌, ◌&&◌, ℕ, true, false, List, length, ◌∷◌, [], ◌++◌, map, Option, None, Some, if◌then◌else◌, IfOk, OnOk};
+ghost use Rattle.std.specs.Prelude.{option_map, ◌≡◌, ◌&&◌, ℕ, true, false, List, length, ◌∷◌, ◌++◌, map, Option, None, Some, if◌then◌else◌, IfOk, OnOk};
 ghost use Rattle.up_conf.specs.declared.job.JobDef.{JobDef as JobValue};
 ghost use Rattle.up_model.specs.declared.event_id.EventId.{EventId as EventIdValue};
 ghost use Rattle.up_book.specs.Keys.{job_at, Mode, Resting, Stepping, held_as, request_place, name_at, instance_place, given_place};
 ghost use Rattle.up_engine.specs.Effects.{ActsOn, Concerns, IsCalled};
-ghost use Rattle.up_engine.specs.Requests.{target_of as said_of, IsIndexed, answer_of, unless};
+ghost use Rattle.up_book.specs.Histories.{OfInstance};
+ghost use Rattle.up_engine.specs.Requests.{target_of as said_of, IsIndexed, Does, DoesBy, DoesTo, DoesToBy, ActsBy, RefusesStart, with_outcome};
 ghost use Rattle.up_model.specs.declared.input.Input.{Input as InputValue};
 ghost use Rattle.up_model.specs.declared.input.Input.TheVariants as given_as;
 ghost use Rattle.up_model.specs.Chronicle.{Chronicle};
@@ -14,11 +15,9 @@ ghost use Rattle.up_model.specs.Configuration.{Configuration};
 ghost use Rattle.up_model.specs.Due.{effect};
 ghost use Rattle.up_model.specs.Events.{with_instance};
 ghost use Rattle.up_model.specs.Files.{own_file};
-ghost use Rattle.up_model.specs.Instances as model_instances;
-ghost use Rattle.up_model.specs.Offers as offer;
+ghost use Rattle.up_model.specs.Instances.{instance_named};
 ghost use Rattle.up_model.specs.Readings as read;
 ghost use Rattle.up_model.specs.Requests.{RequestValue};
-ghost use Rattle.up_model.specs.Values.{Bindings};
 ghost use Rattle.up_stanza.specs.declared.process.Process.TheVariants.{Main};
 
 use crate::due::Concern;
@@ -33,7 +32,7 @@ use up_book::{Book, Holders};
 use up_cascade::{Setup, event_of, has_room, start_called, stop_of};
 use up_image::JobFile;
 use up_job::InstanceKey;
-use up_model::{Answer, Command, Input, JobDef, MAX_EVENTS, Process, Request, Who};
+use up_model::{Answer, Command, Input, MAX_EVENTS, Process, Request, Who};
 use up_text::{Env, Text};
 
 // A request is refused.
@@ -76,11 +75,8 @@ fn running_refusal<B: Book>(
     who: &Who,
     key: InstanceKey,
 ) -> Result<Option<Text>, AllocError>
-    ensures { IfOk result (λ text. (mode : Mode) (config : Configuration) (c : Chronicle) (i : ℕ)
-        (places : List ℕ) (job : JobValue) (environment : Bindings)
-        → B.stands book.now mode config c → instance_place config c key ≡ Some i
-        → model.start_at places job who.now environment (Some i) c
-        ≡ unless text (model.Done (offer.start_of job who.now environment places (Some i) c))) }
+    ensures { IfOk result (λ text. (mode : Mode) (config : Configuration)
+        → OfInstance (B.stands book.now mode) config key (λ c i. RefusesStart text who.now (Some i) c)) }
 {
     if book.goal(key).is_start() {
         let text = already_running(alloc, who)?;
@@ -96,11 +92,9 @@ fn room_refusal<B: Book>(
     index: usize,
     who: &Who,
 ) -> Result<Option<Text>, AllocError>
-    ensures { IfOk result (λ text. (mode : Mode) (config : Configuration) (c : Chronicle) (places : List ℕ)
-        (job : JobValue) (environment : Bindings)
+    ensures { IfOk result (λ text. (mode : Mode) (config : Configuration) (c : Chronicle)
         → B.stands book.now mode config c → name_at config index ≡ Some who.now.job
-        → model.start_at places job who.now environment None c
-        ≡ unless text (model.Done (offer.start_of job who.now environment places None c))) }
+        → RefusesStart text who.now None c) }
 {
     if !has_room(book, index) {
         let text = too_many_instances(alloc, who.job.as_str())?;
@@ -116,12 +110,9 @@ fn start_refusal<B: Book>(
     index: usize,
     who: &Who,
 ) -> Result<Option<Text>, AllocError>
-    ensures { IfOk result (λ text. (mode : Mode) (config : Configuration) (c : Chronicle) (places : List ℕ)
-        (job : JobValue) (environment : Bindings)
+    ensures { IfOk result (λ text. (mode : Mode) (config : Configuration) (c : Chronicle)
         → B.stands book.now mode config c → name_at config index ≡ Some who.now.job
-        → model.start_at places job who.now environment (model_instances.instance_named who.now c) c
-        ≡ unless text (model.Done (offer.start_of job who.now environment places
-        (model_instances.instance_named who.now c) c))) }
+        → RefusesStart text who.now (instance_named who.now c) c) }
 {
     match book.find(index, who.instance.as_str()) {
         Some(key) => {
@@ -144,15 +135,10 @@ fn start_who<B: Book>(
     who: &Who,
     environment: Env,
 ) -> Result<(), AllocError>
-    ensures { OnOk result ((config : Configuration) (c : Chronicle) (input : InputValue) (places : List ℕ)
-        → B.stands book.old Stepping config (entry.Given input ∷ c)
+    ensures { OnOk result ((config : Configuration)
         → name_at config index ≡ Some who.now.job → job_at config index ≡ Some file.now
-        → held_as (B.event_place book.old (entry.Given input ∷ c)) (request_place (entry.Given input ∷ c)) holders
-        ≡ map Some places
-        → B.stands book.new Stepping config
-        (model.entries_of (length c) (model.start_at places file.now who.now (with_instance who.now environment)
-        (model_instances.instance_named who.now (entry.Given input ∷ c)) (entry.Given input ∷ c))
-        ++ entry.Given input ∷ c)) }
+        → DoesBy holders (B.event_place book.old) (B.stands book.old Stepping) (B.stands book.new Stepping) config
+        (λ places d. model.start_at places file.now who.now (with_instance who.now environment) (instance_named who.now d) d)) }
 {
     match start_refusal(alloc, book, index, who)? {
         Some(text) => {
@@ -189,21 +175,12 @@ fn start<B: Book>(
     holders: Holders,
     target: Target,
 ) -> Result<Concern, AllocError>
-    ensures after { OnOk result ((config : Configuration) (c : Chronicle) (input : InputValue) (places : List ℕ)
-        → B.stands book.old Stepping config (entry.Given input ∷ c) → IsIndexed config target.entry
-        → held_as (B.event_place book.old (entry.Given input ∷ c)) (request_place (entry.Given input ∷ c)) holders
-        ≡ map Some places
-        → B.stands book.new Stepping config
-        (model.entries_of (length c) (model.start places (said_of target.entry) (entry.Given input ∷ c))
-        ++ entry.Given input ∷ c)) }
-    ensures concerns { IfOk result (λ concern. (config : Configuration) (c : Chronicle) (id : ℕ)
-        (request : RequestValue) (places : List ℕ)
-        → B.stands book.old Stepping config (entry.Given (given_as.Request id request) ∷ c)
-        → IsIndexed config target.entry
-        → held_as (B.event_place book.old (entry.Given (given_as.Request id request) ∷ c))
-        (request_place (entry.Given (given_as.Request id request) ∷ c)) holders ≡ map Some places
-        → ActsOn concern config c (model.entries_of (length c) (model.start places (said_of target.entry)
-        (entry.Given (given_as.Request id request) ∷ c)) ++ entry.Given (given_as.Request id request) ∷ c)) }
+    ensures after { OnOk result ((config : Configuration) → IsIndexed config target.entry
+        → DoesBy holders (B.event_place book.old) (B.stands book.old Stepping) (B.stands book.new Stepping) config
+        (λ places. model.start places (said_of target.entry))) }
+    ensures concerns { IfOk result (λ concern. (config : Configuration) → IsIndexed config target.entry
+        → ActsBy holders (B.event_place book.old) (B.stands book.old Stepping) config concern
+        (λ places. model.start places (said_of target.entry))) }
 {
     match target {
         Target::Nobody(text) => {
@@ -232,14 +209,9 @@ fn stop_found<B: Book>(
     who: &Who,
     key: InstanceKey,
 ) -> Result<(), AllocError>
-    ensures { OnOk result ((config : Configuration) (c : Chronicle) (input : InputValue) (places : List ℕ)
-        (i : ℕ) → B.stands book.old Stepping config (entry.Given input ∷ c)
-        → instance_place config (entry.Given input ∷ c) key ≡ Some i
-        → held_as (B.event_place book.old (entry.Given input ∷ c)) (request_place (entry.Given input ∷ c)) holders
-        ≡ map Some places
-        → B.stands book.new Stepping config
-        (model.entries_of (length c) (model.stop_at places vars who.now (Some i) (entry.Given input ∷ c))
-        ++ entry.Given input ∷ c)) }
+    ensures { OnOk result ((config : Configuration) → DoesToBy key holders
+        (B.event_place book.old) (B.stands book.old Stepping) (B.stands book.new Stepping) config
+        (λ i places. model.stop_at places vars who.now (Some i))) }
 {
     if book.goal(key).is_start() {
         stop_of(book, key, vars, holders)?;
@@ -260,15 +232,9 @@ fn stop_who<B: Book>(
     index: usize,
     who: &Who,
 ) -> Result<(), AllocError>
-    ensures { OnOk result ((config : Configuration) (c : Chronicle) (input : InputValue) (places : List ℕ)
-        → B.stands book.old Stepping config (entry.Given input ∷ c)
-        → name_at config index ≡ Some who.now.job
-        → held_as (B.event_place book.old (entry.Given input ∷ c)) (request_place (entry.Given input ∷ c)) holders
-        ≡ map Some places
-        → B.stands book.new Stepping config
-        (model.entries_of (length c) (model.stop_at places vars who.now
-        (model_instances.instance_named who.now (entry.Given input ∷ c)) (entry.Given input ∷ c))
-        ++ entry.Given input ∷ c)) }
+    ensures { OnOk result ((config : Configuration) → name_at config index ≡ Some who.now.job
+        → DoesBy holders (B.event_place book.old) (B.stands book.old Stepping) (B.stands book.new Stepping) config
+        (λ places d. model.stop_at places vars who.now (instance_named who.now d) d)) }
 {
     match book.find(index, who.instance.as_str()) {
         Some(key) => stop_found(alloc, book, holders, vars, who, key)?,
@@ -289,21 +255,12 @@ fn stop<B: Book>(
     vars: Env,
     target: Target,
 ) -> Result<Concern, AllocError>
-    ensures after { OnOk result ((config : Configuration) (c : Chronicle) (input : InputValue) (places : List ℕ)
-        → B.stands book.old Stepping config (entry.Given input ∷ c) → IsIndexed config target.entry
-        → held_as (B.event_place book.old (entry.Given input ∷ c)) (request_place (entry.Given input ∷ c)) holders
-        ≡ map Some places
-        → B.stands book.new Stepping config
-        (model.entries_of (length c) (model.stop places vars (said_of target.entry) (entry.Given input ∷ c))
-        ++ entry.Given input ∷ c)) }
-    ensures concerns { IfOk result (λ concern. (config : Configuration) (c : Chronicle) (id : ℕ)
-        (request : RequestValue) (places : List ℕ)
-        → B.stands book.old Stepping config (entry.Given (given_as.Request id request) ∷ c)
-        → IsIndexed config target.entry
-        → held_as (B.event_place book.old (entry.Given (given_as.Request id request) ∷ c))
-        (request_place (entry.Given (given_as.Request id request) ∷ c)) holders ≡ map Some places
-        → ActsOn concern config c (model.entries_of (length c) (model.stop places vars (said_of target.entry)
-        (entry.Given (given_as.Request id request) ∷ c)) ++ entry.Given (given_as.Request id request) ∷ c)) }
+    ensures after { OnOk result ((config : Configuration) → IsIndexed config target.entry
+        → DoesBy holders (B.event_place book.old) (B.stands book.old Stepping) (B.stands book.new Stepping) config
+        (λ places. model.stop places vars (said_of target.entry))) }
+    ensures concerns { IfOk result (λ concern. (config : Configuration) → IsIndexed config target.entry
+        → ActsBy holders (B.event_place book.old) (B.stands book.old Stepping) config concern
+        (λ places. model.stop places vars (said_of target.entry))) }
 {
     match target {
         Target::Nobody(text) => {
@@ -372,13 +329,9 @@ fn reload_by<B: Book>(
     key: InstanceKey,
     signal: u8,
 ) -> Result<(), AllocError>
-    ensures { OnOk result ((config : Configuration) (c : Chronicle) (input : InputValue) (i : ℕ) (job : JobValue)
-        → B.stands book.old Stepping config (entry.Given input ∷ c)
-        → instance_place config (entry.Given input ∷ c) key ≡ Some i → signal ≡ job.reload_signal
-        → B.stands book.new Stepping config
-        (model.entries_of (length c) (model.reload_at (length c) (Some job) who.now (Some i)
-        (entry.Given input ∷ c))
-        ++ entry.Given input ∷ c)) }
+    ensures { OnOk result ((config : Configuration) (job : JobValue) → signal ≡ job.reload_signal
+        → DoesTo key (B.stands book.old Stepping) (B.stands book.new Stepping) config
+        (λ i given. model.reload_at given (Some job) who.now (Some i))) }
 {
     if can_reload(book, key) {
         signal_and_reply(alloc, book, key, signal)?;
@@ -395,13 +348,9 @@ fn reload_found<B: Book>(
     who: &Who,
     key: InstanceKey,
 ) -> Result<(), AllocError>
-    ensures { OnOk result ((config : Configuration) (c : Chronicle) (input : InputValue) (i : ℕ)
-        → B.stands book.old Stepping config (entry.Given input ∷ c)
-        → instance_place config (entry.Given input ∷ c) key ≡ Some i
-        → B.stands book.new Stepping config
-        (model.entries_of (length c) (model.reload_at (length c) (read.file_of i (entry.Given input ∷ c)) who.now
-        (Some i) (entry.Given input ∷ c))
-        ++ entry.Given input ∷ c)) }
+    ensures { OnOk result ((config : Configuration)
+        → DoesTo key (B.stands book.old Stepping) (B.stands book.new Stepping) config
+        (λ i given d. model.reload_at given (read.file_of i d) who.now (Some i) d)) }
 {
     match reload_signal(book, key) {
         Some(signal) => reload_by(alloc, book, who, key, signal)?,
@@ -419,13 +368,9 @@ fn reload_who<B: Book>(
     index: usize,
     who: &Who,
 ) -> Result<(), AllocError>
-    ensures { OnOk result ((config : Configuration) (c : Chronicle) (input : InputValue)
-        → B.stands book.old Stepping config (entry.Given input ∷ c)
-        → name_at config index ≡ Some who.now.job
-        → B.stands book.new Stepping config
-        (model.entries_of (length c) (model.reload_at (length c) (own_file who.now (entry.Given input ∷ c)) who.now
-        (model_instances.instance_named who.now (entry.Given input ∷ c)) (entry.Given input ∷ c))
-        ++ entry.Given input ∷ c)) }
+    ensures { OnOk result ((config : Configuration) → name_at config index ≡ Some who.now.job
+        → Does (B.stands book.old Stepping) (B.stands book.new Stepping) config
+        (λ given d. model.reload_at given (own_file who.now d) who.now (instance_named who.now d) d)) }
 {
     match book.find(index, who.instance.as_str()) {
         Some(key) => reload_found(alloc, book, who, key)?,
@@ -438,11 +383,9 @@ fn reload_who<B: Book>(
 }
 
 fn reload<B: Book>(alloc: Global, book: &mut B, target: Target) -> Result<(), AllocError>
-    ensures { OnOk result ((config : Configuration) (c : Chronicle) (input : InputValue)
-        → B.stands book.old Stepping config (entry.Given input ∷ c) → IsIndexed config target.entry
-        → B.stands book.new Stepping config
-        (model.entries_of (length c) (model.reload (length c) (said_of target.entry) (entry.Given input ∷ c))
-        ++ entry.Given input ∷ c)) }
+    ensures { OnOk result ((config : Configuration) → IsIndexed config target.entry
+        → Does (B.stands book.old Stepping) (B.stands book.new Stepping) config
+        (λ given. model.reload given (said_of target.entry))) }
 {
     match target {
         Target::Nobody(text) => refuse(book, text)?,
@@ -467,14 +410,9 @@ fn restart_found<B: Book>(
     who: &Who,
     key: InstanceKey,
 ) -> Result<(), AllocError>
-    ensures { OnOk result ((config : Configuration) (c : Chronicle) (input : InputValue) (places : List ℕ)
-        (i : ℕ) → B.stands book.old Stepping config (entry.Given input ∷ c)
-        → instance_place config (entry.Given input ∷ c) key ≡ Some i
-        → held_as (B.event_place book.old (entry.Given input ∷ c)) (request_place (entry.Given input ∷ c)) holders
-        ≡ map Some places
-        → B.stands book.new Stepping config
-        (model.entries_of (length c) (model.restart_at places who.now (Some i) (entry.Given input ∷ c))
-        ++ entry.Given input ∷ c)) }
+    ensures { OnOk result ((config : Configuration) → DoesToBy key holders
+        (B.event_place book.old) (B.stands book.old Stepping) (B.stands book.new Stepping) config
+        (λ i places. model.restart_at places who.now (Some i))) }
 {
     if book.state_of(key).is_running() {
         book.release(key)?;
@@ -494,15 +432,9 @@ fn restart_who<B: Book>(
     index: usize,
     who: &Who,
 ) -> Result<(), AllocError>
-    ensures { OnOk result ((config : Configuration) (c : Chronicle) (input : InputValue) (places : List ℕ)
-        → B.stands book.old Stepping config (entry.Given input ∷ c)
-        → name_at config index ≡ Some who.now.job
-        → held_as (B.event_place book.old (entry.Given input ∷ c)) (request_place (entry.Given input ∷ c)) holders
-        ≡ map Some places
-        → B.stands book.new Stepping config
-        (model.entries_of (length c) (model.restart_at places who.now
-        (model_instances.instance_named who.now (entry.Given input ∷ c)) (entry.Given input ∷ c))
-        ++ entry.Given input ∷ c)) }
+    ensures { OnOk result ((config : Configuration) → name_at config index ≡ Some who.now.job
+        → DoesBy holders (B.event_place book.old) (B.stands book.old Stepping) (B.stands book.new Stepping) config
+        (λ places d. model.restart_at places who.now (instance_named who.now d) d)) }
 {
     match book.find(index, who.instance.as_str()) {
         Some(key) => restart_found(alloc, book, holders, who, key)?,
@@ -521,21 +453,12 @@ fn restart<B: Book>(
     holders: Holders,
     target: Target,
 ) -> Result<Concern, AllocError>
-    ensures after { OnOk result ((config : Configuration) (c : Chronicle) (input : InputValue) (places : List ℕ)
-        → B.stands book.old Stepping config (entry.Given input ∷ c) → IsIndexed config target.entry
-        → held_as (B.event_place book.old (entry.Given input ∷ c)) (request_place (entry.Given input ∷ c)) holders
-        ≡ map Some places
-        → B.stands book.new Stepping config
-        (model.entries_of (length c) (model.restart places (said_of target.entry) (entry.Given input ∷ c))
-        ++ entry.Given input ∷ c)) }
-    ensures concerns { IfOk result (λ concern. (config : Configuration) (c : Chronicle) (id : ℕ)
-        (request : RequestValue) (places : List ℕ)
-        → B.stands book.old Stepping config (entry.Given (given_as.Request id request) ∷ c)
-        → IsIndexed config target.entry
-        → held_as (B.event_place book.old (entry.Given (given_as.Request id request) ∷ c))
-        (request_place (entry.Given (given_as.Request id request) ∷ c)) holders ≡ map Some places
-        → ActsOn concern config c (model.entries_of (length c) (model.restart places (said_of target.entry)
-        (entry.Given (given_as.Request id request) ∷ c)) ++ entry.Given (given_as.Request id request) ∷ c)) }
+    ensures after { OnOk result ((config : Configuration) → IsIndexed config target.entry
+        → DoesBy holders (B.event_place book.old) (B.stands book.old Stepping) (B.stands book.new Stepping) config
+        (λ places. model.restart places (said_of target.entry))) }
+    ensures concerns { IfOk result (λ concern. (config : Configuration) → IsIndexed config target.entry
+        → ActsBy holders (B.event_place book.old) (B.stands book.old Stepping) config concern
+        (λ places. model.restart places (said_of target.entry))) }
 {
     match target {
         Target::Nobody(text) => {
@@ -558,12 +481,9 @@ fn restart<B: Book>(
 
 // The name of an `emit` is one of an event.
 fn emit<B: Book>(alloc: Global, book: &mut B, name: &str, vars: Env) -> Result<(), AllocError>
-    ensures { OnOk result ((config : Configuration) (c : Chronicle) (input : InputValue)
-        (request : RequestValue) → B.stands book.old Stepping config (entry.Given input ∷ c)
+    ensures { OnOk result ((config : Configuration) (request : RequestValue)
         → request.name ≡ name.now → request.vars ≡ vars
-        → B.stands book.new Stepping config
-        (model.entries_of (length c) (model.emit (length c) request (entry.Given input ∷ c))
-        ++ entry.Given input ∷ c)) }
+        → Does (B.stands book.old Stepping) (B.stands book.new Stepping) config (λ given. model.emit given request)) }
 {
     if book.live_events() < MAX_EVENTS {
         let event = event_of(alloc, name, vars)?;
@@ -587,12 +507,11 @@ fn change<B: Book>(
         → B.stands book.old Stepping setup.now (entry.Given input ∷ c)
         → request_place (entry.Given input ∷ c) ≡ (if request.wait then Some (length c) else None)
         → B.stands book.new Stepping setup.now
-        (model.entries_of (length c) (model.outcome_of setup.now (length c) request (entry.Given input ∷ c))
-        ++ entry.Given input ∷ c)) }
+        (with_outcome input (λ given. model.outcome_of setup.now given request) c)) }
     ensures concerns { IfOk result (λ concern. (c : Chronicle) (id : ℕ)
         → B.stands book.old Stepping setup.now (entry.Given (given_as.Request id request) ∷ c)
-        → ActsOn concern setup.now c (model.entries_of (length c) (model.outcome_of setup.now (length c) request
-        (entry.Given (given_as.Request id request) ∷ c)) ++ entry.Given (given_as.Request id request) ∷ c)) }
+        → ActsOn concern setup.now c
+        (with_outcome (given_as.Request id request) (λ given. model.outcome_of setup.now given request) c)) }
 {
     let Request {
         command,

@@ -1,5 +1,5 @@
 //! What clients are told of instances: `status` and `list`.
-ghost use Rattle.std.specs.Prelude.{◌≡◌, ◌==◌, ℕ, List, ◌∷◌, [], ◌++◌, map, Some, IfOk, OnOk, string_bytes, if◌then◌else◌};
+ghost use Rattle.std.specs.Prelude.{◌≡◌, ◌==◌, ℕ, List, ◌∷◌, [], ◌++◌, Some, IfOk, OnOk, string_bytes, if◌then◌else◌};
 ghost use Rattle.up_book.specs.Keys.{Mode, name_at, instance_place};
 ghost use Rattle.up_engine.specs.Requests.{target_of as said_of, IsIndexed, answer_of};
 ghost use Rattle.up_model.specs.Chronicle.{Chronicle};

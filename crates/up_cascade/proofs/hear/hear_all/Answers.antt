@@ -26,7 +26,7 @@ hearers-preserved g c = record {
       let by : PassesBy stands places config = record { start = c.passes_by.ensures.start config; stop = c.passes_by.ensures.stop config; events = c.passes_by.ensures.events } in
       let to = passed-to stands places config by c.names_differ.ensures e event c.hearers.from c.in-Some.index (Handled e ∷ Given Turn ∷ c') c.in-Some.ensures.within.0 (omega (arith, c.in-Some.ensures.within.1)) h next.1 in
       heard-one stands (g.B.Book.stands c.hear.new.book Stepping config) places (g.B.Book.event_place c.hear.new.book) config e event c.in-Some.index c.in-Some.file.now (Handled e ∷ Given Turn ∷ c') c.names_differ.ensures next.0 to
-      (c.in_ok-hear.ensures.after to.d e to.stood next.0 to.known) (c.in_ok-hear.ensures.events to.d e event e to.stood next.0 to.known to.known);
+      (c.in_ok-hear.ensures.after to.d e to.stood next.0 to.known) (c.in_ok-hear.ensures.events to.d e to.stood next.0 to.known event e to.known);
   unheard = λ c' e stood known deaf.
       let same = c.hearers.invariant.unheard c' e stood known deaf in
       let now = subst (λ b. g.B.Book.stands b Stepping c.args.setup.now c') (sym same) stood in

@@ -9,7 +9,7 @@ use Rattle.up_model.specs.Offers.{stop_offer}
 use Rattle.up_cascade.proofs.hear.hear_by.Goals as goal
 
 pub returns-clause-after : goal.returns-clause-after
-returns-clause-after g c c' its e s there same event =
+returns-clause-after g c c' its e s there event same =
     let config = c.args.setup.now in
     let file = file-there config c' c.args.key its there ∙ ap Some same in
     let d : Chronicle = stop_offer config c.args.file.now its.place e c' ++ c' in
@@ -17,7 +17,7 @@ returns-clause-after g c c' its e s there same event =
     (rw c.job.ensures at c.in_ok-stays.ensures.after) d its (c.in_ok-offer_stop.ensures.after c' its.place e s (placed config c' c.args.key its there) file event) there_d same
 
 pub returns-clause-lists : goal.returns-clause-lists
-returns-clause-lists g c c' its e s there same event =
+returns-clause-lists g c c' its e s there event same =
     let config = c.args.setup.now in
     let file = file-there config c' c.args.key its there ∙ ap Some same in
     let d : Chronicle = stop_offer config c.args.file.now its.place e c' ++ c' in
@@ -26,10 +26,10 @@ returns-clause-lists g c c' its e s there same event =
     ((rw c.job.ensures at c.in_ok-stays.ensures.lists) d its (c.in_ok-offer_stop.ensures.after c' its.place e s (placed config c' c.args.key its there) file event) there_d same)
 
 pub returns-clause-events : goal.returns-clause-events
-returns-clause-events g c c' its e k j s there same event known =
+returns-clause-events g c c' its e s there event same k j known =
     let config = c.args.setup.now in
     let file = file-there config c' c.args.key its there ∙ ap Some same in
     let d : Chronicle = stop_offer config c.args.file.now its.place e c' ++ c' in
     let place = placed config c' c.args.key its there in
     let there_d : instance_at config d c.args.key ≡ Some its = same-instance config c' d c.args.key (stop-lists config c.args.file.now its.place e c') ∙ there in
-    (rw c.job.ensures at c.in_ok-stays.ensures.events) d its k j (c.in_ok-offer_stop.ensures.after c' its.place e s place file event) there_d same (c.in_ok-offer_stop.ensures.events c' its.place e k j s place file event known)
+    (rw c.job.ensures at c.in_ok-stays.ensures.events) d its (c.in_ok-offer_stop.ensures.after c' its.place e s place file event) there_d same k j (c.in_ok-offer_stop.ensures.events c' its.place e s place file event k j known)

@@ -33,7 +33,7 @@ loop-turn-preserved g c =
           ahead-next (g.B.Book.stands c.loop-turn.book Stepping config) (g.B.Book.stands c.hear_stop.new.book Stepping config) (λ its. hear_stops config its e) (g.B.Book.event_place c.args.book.now c')
           (g.B.Book.event_place c.loop-turn.book) (g.B.Book.event_place c.hear_stop.new.book) name at c.loop-turn.turn c' so_far first.0 first.1 first.2 stays (settle_one 5 first.0.file first.0 (stop_offer config first.0.file first.0.place e so_far.d ++ so_far.d))
           (c.in_ok-hear_stop.ensures.after so_far.d first.0 e so_far.stood there event_d) (c.in_ok-hear_stop.ensures.lists so_far.d first.0 e so_far.stood there event_d) refl
-          (λ k j known. c.in_ok-hear_stop.ensures.events so_far.d first.0 e k j so_far.stood there event_d known) c.if-branch.at next;
+          (λ k j known. c.in_ok-hear_stop.ensures.events so_far.d first.0 e so_far.stood there event_d k j known) c.if-branch.at next;
     }
 
 pub returns-clause-after : goal.returns-clause-after
@@ -45,7 +45,7 @@ returns-clause-after g c c' name e s named event =
     rw (so_far.same ∙ ap (λ its. hear_stops config its e so_far.d) none) so_far.stood
 
 pub returns-clause-events : goal.returns-clause-events
-returns-clause-events g c c' name e k j s named event known =
+returns-clause-events g c c' name e s named event k j known =
     let config = c.args.setup.now in
     let so_far = c.loop-turn.invariant.ahead c' name e s named event in
     let count = c.count-turn-end.ensures Stepping config c' name s named in

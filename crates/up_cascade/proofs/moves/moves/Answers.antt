@@ -23,7 +23,7 @@ returns-then-not-may_leave-clause-after g c c' its s there in_table =
     rw (so_far.same ∙ one-stays so_far.left job its so_far.d stays) so_far.stood
 
 pub returns-then-not-may_leave-clause-events : goal.returns-then-not-may_leave-clause-events
-returns-then-not-may_leave-clause-events g c c' its k j s there in_table known =
+returns-then-not-may_leave-clause-events g c c' its s there in_table k j known =
     let config = c.args.setup.now in
     let job = c.args.job.now in
     let so_far = c.loop-turn.invariant c' its s there in_table in
@@ -51,14 +51,14 @@ returns-then-not-branch-clause-after g c c' its s there in_table =
     rw (so_far.same ∙ one-gone so_far.left c.loop-turn.turn job its so_far.d so_far.count (omega arith) may gone) (c.in_ok-move_on.ensures.after so_far.d its so_far.stood so_far.there in_table)
 
 pub returns-then-not-branch-clause-events : goal.returns-then-not-branch-clause-events
-returns-then-not-branch-clause-events g c c' its k j s there in_table known =
+returns-then-not-branch-clause-events g c c' its s there in_table k j known =
     let config = c.args.setup.now in
     let job = c.args.job.now in
     let so_far = c.loop-turn.invariant c' its s there in_table in
     let may : may_leave job its.place so_far.d ≡ true =
     sym (c.may_leave.ensures Stepping config so_far.d its.place so_far.stood (placed config so_far.d c.args.key its so_far.there)) ∙ c.if-not-may_leave.false in
     let gone = waiting-is (next_of job its.place so_far.d) (not-false _ (sym c.if-not-branch.true ∙ c.in_ok-move_on.ensures.stays so_far.d its so_far.stood so_far.there in_table)) in
-    rw (so_far.same ∙ one-gone so_far.left c.loop-turn.turn job its so_far.d so_far.count (omega arith) may gone) (c.in_ok-move_on.ensures.events so_far.d its k j so_far.stood so_far.there in_table (so_far.events k j known))
+    rw (so_far.same ∙ one-gone so_far.left c.loop-turn.turn job its so_far.d so_far.count (omega arith) may gone) (c.in_ok-move_on.ensures.events so_far.d its so_far.stood so_far.there in_table k j (so_far.events k j known))
 
 pub returns-then-not-branch-clause-lists : goal.returns-then-not-branch-clause-lists
 returns-then-not-branch-clause-lists g c c' its s there in_table =
@@ -89,7 +89,7 @@ loop-turn-preserved g c c' its s there in_table =
       count = more.count;
       same = so_far.same ∙ more.same;
       lists = λ name. keeps name ∙ so_far.lists name;
-      events = λ k j known. c.in_ok-move_on.ensures.events so_far.d its k j so_far.stood so_far.there in_table (so_far.events k j known);
+      events = λ k j known. c.in_ok-move_on.ensures.events so_far.d its so_far.stood so_far.there in_table k j (so_far.events k j known);
     }
 
 pub returns-clause-after : goal.returns-clause-after
@@ -98,7 +98,7 @@ returns-clause-after g c c' its s there in_table =
     rw (so_far.same ∙ none-more so_far.left c.args.job.now its so_far.d (omega (arith, so_far.count))) so_far.stood
 
 pub returns-clause-events : goal.returns-clause-events
-returns-clause-events g c c' its k j s there in_table known =
+returns-clause-events g c c' its s there in_table k j known =
     let so_far = c.loop-turn.invariant c' its s there in_table in
     rw (so_far.same ∙ none-more so_far.left c.args.job.now its so_far.d (omega (arith, so_far.count))) (so_far.events k j known)
 

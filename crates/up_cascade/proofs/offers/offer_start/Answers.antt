@@ -22,7 +22,7 @@ returns-in_ok-start_fires-clause-after g c c' e s named event =
     rw (holds, two_last) (c.in_ok-start_fires.ensures.after (Offered (StartOn job.name) e ∷ c') after named)
 
 pub returns-in_ok-start_fires-clause-events : goal.returns-in_ok-start_fires-clause-events
-returns-in_ok-start_fires-clause-events g c c' e k j s named event other =
+returns-in_ok-start_fires-clause-events g c c' e s named event k j other =
     let config = c.args.setup.now in
     let job = c.args.file.now in
     let env : c.environment_at.result.now ≡ env_of_job config c.job.result.now.name = rw c.job.ensures (c.environment_at.ensures job named) in
@@ -34,6 +34,6 @@ returns-in_ok-start_fires-clause-events g c c' e k j s named event other =
     (c.in_ok-holds.ensures.after config c' e s (rw c.job.ensures named) env event) in
     let others : g.B.Book.event_place c.offer_start.new.self (Offered (StartOn job.name) e ∷ c') k ≡ Some j =
     subst (λ (its : JobDef). g.B.Book.event_place c.offer_start.new.self (Offered (StartOn its.name) e ∷ c') k ≡ Some j) c.job.ensures
-    (c.in_ok-holds.ensures.events config c' e k j s (rw c.job.ensures named) env event other) in
+    (c.in_ok-holds.ensures.events config c' e s (rw c.job.ensures named) env event k j other) in
     let holds = sym true_then ∙ c.if-holds.true in
-    rw (holds, two_last) (c.in_ok-start_fires.ensures.events (Offered (StartOn job.name) e ∷ c') k j after named others)
+    rw (holds, two_last) (c.in_ok-start_fires.ensures.events (Offered (StartOn job.name) e ∷ c') after named k j others)

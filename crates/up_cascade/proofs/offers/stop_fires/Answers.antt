@@ -10,8 +10,7 @@ returns-clause-after g c c' i s known in_table =
     c.in_ok-stop_by.ensures.after config (Fired (StopOn i) events ∷ c') i events (c.in_ok-holders.ensures.after config c' i s known in_table) known (c.in_ok-holders.ensures.taken config c' i s known in_table)
 
 pub returns-clause-events : goal.returns-clause-events
-returns-clause-events g c c' i k j s known in_table event =
+returns-clause-events g c c' i s known in_table k j event =
     let config = c.args.setup.now in
     let events = taken c.args.job.now.stop_on (seen config (StopOn i) c') in
-    c.in_ok-stop_by.ensures.events config (Fired (StopOn i) events ∷ c') i events k j (c.in_ok-holders.ensures.after config c' i s known in_table) known (c.in_ok-holders.ensures.taken config c' i s known in_table)
-    (c.in_ok-holders.ensures.events config c' i k j s known in_table event)
+    c.in_ok-stop_by.ensures.events config (Fired (StopOn i) events ∷ c') i events (c.in_ok-holders.ensures.after config c' i s known in_table) known (c.in_ok-holders.ensures.taken config c' i s known in_table) k j (c.in_ok-holders.ensures.events config c' i s known in_table k j event)

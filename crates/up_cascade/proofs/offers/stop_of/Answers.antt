@@ -13,8 +13,8 @@ returns-clause-after g c config c' i places s there held =
     c.in_ok-aim.ensures.after config d i places now here (c.in_ok-release.ensures.holders config c' i c.args.holders places s there held)
 
 pub returns-clause-events : goal.returns-clause-events
-returns-clause-events g c config c' i places k j s there held event =
+returns-clause-events g c config c' i places s there held k j event =
     let d : Chronicle = releasing i false c' ++ c' in
     let now = c.in_ok-release.ensures.after config c' i s there in
     let here : instance_place config d c.args.key ≡ Some i = released_there config c.args.key i false c' ∙ there in
-    c.in_ok-aim.ensures.events config d i places k j now here (c.in_ok-release.ensures.holders config c' i c.args.holders places s there held) (c.in_ok-release.ensures.events config c' i k j s there event)
+    c.in_ok-aim.ensures.events config d i places now here (c.in_ok-release.ensures.holders config c' i c.args.holders places s there held) k j (c.in_ok-release.ensures.events config c' i s there k j event)

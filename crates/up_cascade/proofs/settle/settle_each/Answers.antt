@@ -31,7 +31,7 @@ loop-turn-preserved g c =
           ahead-next (g.B.Book.stands c.loop-turn.book Stepping config) (g.B.Book.stands c.moves_on.new.book Stepping config) settle_each (g.B.Book.event_place c.args.book.now c')
           (g.B.Book.event_place c.loop-turn.book) (g.B.Book.event_place c.moves_on.new.book) name at c.loop-turn.turn c' so_far first.0 first.1 first.2 stays (settle_one 5 first.0.file first.0 so_far.d)
           (c.in_ok-moves_on.ensures.after so_far.d first.0 so_far.stood there) (c.in_ok-moves_on.ensures.lists so_far.d first.0 so_far.stood there) refl
-          (λ k j known. c.in_ok-moves_on.ensures.events so_far.d first.0 k j so_far.stood there known) c.if-branch.at next;
+          (λ k j known. c.in_ok-moves_on.ensures.events so_far.d first.0 so_far.stood there k j known) c.if-branch.at next;
     }
 
 pub returns-clause-after : goal.returns-clause-after
@@ -43,7 +43,7 @@ returns-clause-after g c c' name s named =
     rw (so_far.same ∙ ap (λ its. settle_each its so_far.d) none) so_far.stood
 
 pub returns-clause-events : goal.returns-clause-events
-returns-clause-events g c c' name k j s named known =
+returns-clause-events g c c' name s named k j known =
     let config = c.args.setup.now in
     let so_far = c.loop-turn.invariant.ahead c' name s named in
     let count = c.count-turn-end.ensures Stepping config c' name s named in

@@ -14,7 +14,7 @@ returns-in_ok-concern-in-Some-clause-after g c config c' s =
 pub returns-in_ok-concern-in-Some-clause-concerns : goal.returns-in_ok-concern-in-Some-clause-concerns
 returns-in_ok-concern-in-Some-clause-concerns g c config c' distinct s =
     let found = turn_found (g.B.Book.event_place c.args.book.now c') (c.in-Some.id, c.in-Some.kind) (turn_event config (queue c') c') (c.in-Some.ensures config c' s) in
-    c.in_ok-concern-in-Some.ensures.concerns config c' found.0 distinct s found.1.0 found.1.1
+    c.in_ok-concern-in-Some.ensures.concerns config distinct c' found.0 s found.1.0 found.1.1
 
 pub returns-in-None-clause-concerns : goal.returns-in-None-clause-concerns
 returns-in-None-clause-concerns g c config c' distinct s =

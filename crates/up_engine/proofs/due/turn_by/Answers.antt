@@ -18,13 +18,13 @@ returns-in_ok-concern-in-Finish-clause-after g c config c' e s known found =
     rw is (c.in_ok-concern-in-Finish.ensures.after config c' e s known (free_then config c' e (is_finish c.args.kind) found is))
 
 pub returns-in_ok-concern-in-Finish-clause-concerns : goal.returns-in_ok-concern-in-Finish-clause-concerns
-returns-in_ok-concern-in-Finish-clause-concerns g c config c' e distinct s known found =
+returns-in_ok-concern-in-Finish-clause-concerns g c config distinct c' e s known found =
     let is : is_finish c.args.kind ≡ true = ap is_finish c.in-Finish.is in
-    c.in_ok-concern-in-Finish.ensures.concerns config c' e distinct s known (free_then config c' e (is_finish c.args.kind) found is)
+    c.in_ok-concern-in-Finish.ensures.concerns config distinct c' e s known (free_then config c' e (is_finish c.args.kind) found is)
     (subst (λ b. turn_event config (queue c') c' ≡ Some (live_at e b)) is found)
 
 pub returns-in-Handle-clause-concerns : goal.returns-in-Handle-clause-concerns
-returns-in-Handle-clause-concerns g c config c' e distinct s known found = (e, turn-takes config c' e (is_finish c.args.kind) found (ap is_finish c.in-Handle.is), c.handle.ensures.events config c' e s known)
+returns-in-Handle-clause-concerns g c config distinct c' e s known found = (e, turn-takes config c' e (is_finish c.args.kind) found (ap is_finish c.in-Handle.is), c.handle.ensures.events config c' e s known)
 
 pub returns-in_ok-concern-in-Finish-clause-free : goal.returns-in_ok-concern-in-Finish-clause-free
 returns-in_ok-concern-in-Finish-clause-free g c config c' e s known found free =

@@ -47,7 +47,7 @@ returns-in-Reload-clause-after g c c' given s asked =
     let d : Chronicle = Given given ∷ c' in
     let target : said_of c.in_ok-target-in-Reload.target ≡ known_target config c.request.inside.name c.request.inside.vars d =
     subst (λ n. said_of c.in_ok-target-in-Reload.target ≡ known_target config n c.request.inside.vars d) c.as_str-in-Reload.ensures (c.in_ok-target-in-Reload.ensures.target Stepping d s) in
-    let done = c.in_ok-reload-in-Reload.ensures config c' given s c.in_ok-target-in-Reload.ensures.index in
+    let done = c.in_ok-reload-in-Reload.ensures config c.in_ok-target-in-Reload.ensures.index c' given s in
     let told = subst (λ t. g.B.Book.stands c.reload.new.book Stepping config (entries_of (length c') (reload (length c') t d) ++ d)) target done in
     subst (λ r. g.B.Book.stands c.reload.new.book Stepping config (entries_of (length c') (outcome_of config (length c') r d) ++ d)) c.request.view_is
     (rw c.in-Reload.is told)

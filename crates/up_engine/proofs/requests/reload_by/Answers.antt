@@ -7,13 +7,13 @@ use Rattle.up_model.specs.Readings.{state_of, lives}
 use Rattle.up_engine.proofs.requests.reload_by.Goals as goal
 
 pub returns-in_ok-signal_and_reply : goal.returns-in_ok-signal_and_reply
-returns-in_ok-signal_and_reply g c config c' input i job s known same =
+returns-in_ok-signal_and_reply g c config job same c' input i s known =
     let d : Chronicle = Given input ∷ c' in
     let may : (is_running (state_of i c') && lives i Main d) ≡ true = sym (c.can_reload.ensures Stepping config d i s known) ∙ c.if-can_reload.true in
     rw may (rw same at (c.in_ok-signal_and_reply.ensures config c' input i s known))
 
 pub returns-in_ok-refuse : goal.returns-in_ok-refuse
-returns-in_ok-refuse g c config c' input i job s known same =
+returns-in_ok-refuse g c config job same c' input i s known =
     let d : Chronicle = Given input ∷ c' in
     let may : (is_running (state_of i c') && lives i Main d) ≡ false = sym (c.can_reload.ensures Stepping config d i s known) ∙ c.if-can_reload.false in
     rw (may, ← c.in_ok-text.ensures) (c.in_ok-refuse.ensures config c' input s)

@@ -7,7 +7,7 @@ use Rattle.up_model.specs.Instances.{instance_named}
 use Rattle.up_engine.proofs.requests.reload_who.Goals as goal
 
 pub returns-in_ok-reload_found-in-Some : goal.returns-in_ok-reload_found-in-Some
-returns-in_ok-reload_found-in-Some g c config c' input s named =
+returns-in_ok-reload_found-in-Some g c config named c' input s =
     let d : Chronicle = Given input ∷ c' in
     let who = c.args.who.now in
     let there = rw c.as_str.ensures at (c.in-Some.ensures.place Stepping config d who.job s named) in
@@ -15,7 +15,7 @@ returns-in_ok-reload_found-in-Some g c config c' input s named =
     rw found.1 (c.in_ok-reload_found-in-Some.ensures config c' input found.0 s found.2)
 
 pub returns-in_ok-refuse-in-None : goal.returns-in_ok-refuse-in-None
-returns-in_ok-refuse-in-None g c config c' input s named =
+returns-in_ok-refuse-in-None g c config named c' input s =
     let d : Chronicle = Given input ∷ c' in
     let who = c.args.who.now in
     let there = rw c.as_str.ensures at (c.find.ensures.place Stepping config d who.job s named) in

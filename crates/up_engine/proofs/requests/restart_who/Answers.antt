@@ -7,15 +7,15 @@ use Rattle.up_model.specs.Instances.{instance_named}
 use Rattle.up_engine.proofs.requests.restart_who.Goals as goal
 
 pub returns-in_ok-restart_found-in-Some : goal.returns-in_ok-restart_found-in-Some
-returns-in_ok-restart_found-in-Some g c config c' input places s named held =
+returns-in_ok-restart_found-in-Some g c config named c' input places s held =
     let d : Chronicle = Given input ∷ c' in
     let who = c.args.who.now in
     let there = rw c.as_str.ensures at (c.in-Some.ensures.place Stepping config d who.job s named) in
     let found = named_some {K = InstanceKey} (instance_place config d) c.in-Some.key (instance_named who d) there in
-    rw found.1 (c.in_ok-restart_found-in-Some.ensures config c' input places found.0 s found.2 held)
+    rw found.1 (c.in_ok-restart_found-in-Some.ensures config c' input found.0 places s found.2 held)
 
 pub returns-in_ok-refuse-in-None : goal.returns-in_ok-refuse-in-None
-returns-in_ok-refuse-in-None g c config c' input places s named held =
+returns-in_ok-refuse-in-None g c config named c' input places s held =
     let d : Chronicle = Given input ∷ c' in
     let who = c.args.who.now in
     let there = rw c.as_str.ensures at (c.find.ensures.place Stepping config d who.job s named) in

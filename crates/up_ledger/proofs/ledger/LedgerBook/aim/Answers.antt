@@ -22,4 +22,4 @@ returns-clause-after c config c' i places s found held =
     (found-same old.others config c' _ (λ job. refl) s.found)
 
 pub returns-clause-events : goal.returns-clause-events
-returns-clause-events c config c' i places k j s found held other = c.in_ok-aim.ensures.places (queue c') k ∙ other
+returns-clause-events c config c' i places s found held k j other = c.in_ok-aim.ensures.places (queue c') k ∙ other

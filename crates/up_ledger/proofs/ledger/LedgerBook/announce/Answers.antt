@@ -13,4 +13,4 @@ returns-clause-after c config c' i s found =
     (entering-out config c' i c.args.state c.args.event) c.in_ok-push_emitted.ensures refl refl
 
 pub returns-clause-events : goal.returns-clause-events
-returns-clause-events c config c' i k j s found other = c.in_ok-announce.ensures.events config c' i k j s.past other
+returns-clause-events c config c' i s found k j other = c.in_ok-announce.ensures.events config c' i k j s.past other

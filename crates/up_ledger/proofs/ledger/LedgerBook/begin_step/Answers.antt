@@ -10,4 +10,4 @@ returns-clause-after c config c' s speaks = stood _ _ config _ (c.begin_step.ens
     (found-same _ config c' _ (λ job. refl) s.found)
 
 pub returns-clause-events : goal.returns-clause-events
-returns-clause-events c config c' k j s found = ap (λ events. place_of events (queue c') k) c.begin_step.ensures.events ∙ found
+returns-clause-events c config c' s k j found = ap (λ events. place_of events (queue c') k) c.begin_step.ensures.events ∙ found

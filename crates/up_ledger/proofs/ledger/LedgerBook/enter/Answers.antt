@@ -11,4 +11,4 @@ returns-clause-after c config c' i s found moves =
     (spares-entered config c' i c.args.state moves (exists-so old.past config c' c.args.key i s.past found))
 
 pub returns-clause-events : goal.returns-clause-events
-returns-clause-events c config c' i k j s found moves other = c.enter.ensures.places (queue c') k ∙ other
+returns-clause-events c config c' i s found moves k j other = c.enter.ensures.places (queue c') k ∙ other

@@ -19,4 +19,4 @@ returns-clause-taken c config c' s there =
     c.in_ok-taken.ensures.taken config c' ts s.past (job-there config c.args.index c.args.job.now there)
 
 pub returns-clause-events : goal.returns-clause-events
-returns-clause-events c config c' k j s there other = c.in_ok-taken.ensures.places (queue c') k ∙ other
+returns-clause-events c config c' s there k j other = c.in_ok-taken.ensures.places (queue c') k ∙ other

@@ -20,4 +20,4 @@ returns-clause-taken c config c' i s found there =
     c.in_ok-taken.ensures.taken config c' i ts s.past (keyed old.past config c' c.args.key i s.past found) there
 
 pub returns-clause-events : goal.returns-clause-events
-returns-clause-events c config c' i k j s found there other = c.in_ok-taken.ensures.places (queue c') k ∙ other
+returns-clause-events c config c' i s found there k j other = c.in_ok-taken.ensures.places (queue c') k ∙ other

@@ -31,7 +31,7 @@ returns-clause-after c config c' i s found =
     (found-same old.others config (Entered i Waiting ∷ c') _ (λ job. mild-instances job i false d) (found-left old.others config c' i s.found))
 
 pub returns-clause-events : goal.returns-clause-events
-returns-clause-events c config c' i k j s found other =
+returns-clause-events c config c' i s found k j other =
     let old = c.args.self.now in
     let d = Queued (Entering i Waiting) c.args.event ∷ Entered i Waiting ∷ c' in
     ap (λ lives. place_of c.leave-2.new.self.events lives k) (mild-queue i false d)

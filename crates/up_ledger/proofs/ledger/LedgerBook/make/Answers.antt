@@ -36,4 +36,4 @@ returns-clause-holders c config c' who places s there none held =
     held-same _ _ (request_place c') (request_place c') who (λ k. c.in_ok-key.ensures.places (queue c') k) refl ∙ held
 
 pub returns-clause-events : goal.returns-clause-events
-returns-clause-events c config c' k j s there none other = c.in_ok-key.ensures.places (queue c') k ∙ other
+returns-clause-events c config c' s there none k j other = c.in_ok-key.ensures.places (queue c') k ∙ other

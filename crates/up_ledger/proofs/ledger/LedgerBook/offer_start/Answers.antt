@@ -18,4 +18,4 @@ returns-clause-holds c config c' e s there env event =
     c.in_ok-holds.ensures.holds config c' e s.past job env (s.index.by_event.starts c.args.index c.args.job.now job) event
 
 pub returns-clause-events : goal.returns-clause-events
-returns-clause-events c config c' e k j s there env event other = c.in_ok-holds.ensures.places (queue c') k ∙ other
+returns-clause-events c config c' e s there env event k j other = c.in_ok-holds.ensures.places (queue c') k ∙ other

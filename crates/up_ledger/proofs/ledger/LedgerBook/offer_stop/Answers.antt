@@ -17,4 +17,4 @@ returns-clause-holds c config c' i e s found there event =
     c.in_ok-holds.ensures.holds config c' i e s.past (keyed old.past config c' c.args.key i s.past found) there event
 
 pub returns-clause-events : goal.returns-clause-events
-returns-clause-events c config c' i e k j s found there event other = c.in_ok-holds.ensures.places (queue c') k ∙ other
+returns-clause-events c config c' i e s found there event k j other = c.in_ok-holds.ensures.places (queue c') k ∙ other

@@ -14,4 +14,4 @@ returns-clause-after c config c' i s found there =
     (ordered old.past config c' c.args.key i c.args.job.now c.args.process c.in_ok-order.order s.past found there c.in_ok-order.ensures) c.in_ok-put.ensures refl refl
 
 pub returns-clause-events : goal.returns-clause-events
-returns-clause-events c config c' i k j s found there other = c.order.ensures.places (queue c') k ∙ other
+returns-clause-events c config c' i s found there k j other = c.order.ensures.places (queue c') k ∙ other

@@ -25,5 +25,5 @@ returns-clause-holders c config c' i who places s found held =
     held-same _ _ _ _ who (λ k. ap (λ lives. place_of c.let_go.new.self.events lives k) (mild-queue i false c') ∙ c.let_go.ensures.places (queue c') k) (mild-request i false c') ∙ held
 
 pub returns-clause-events : goal.returns-clause-events
-returns-clause-events c config c' i k j s found other =
+returns-clause-events c config c' i s found k j other =
     ap (λ lives. place_of c.let_go.new.self.events lives k) (mild-queue i false c') ∙ c.let_go.ensures.places (queue c') k ∙ other

@@ -14,4 +14,4 @@ returns-clause-after c config c' i s found =
     (signalled old.past config c' c.args.key i c.args.signal false c.in_ok-sent.sent s.past found c.in_ok-sent.ensures) c.in_ok-put.ensures refl refl
 
 pub returns-clause-events : goal.returns-clause-events
-returns-clause-events c config c' i k j s found other = c.signal.ensures.places (queue c') k ∙ other
+returns-clause-events c config c' i s found k j other = c.signal.ensures.places (queue c') k ∙ other
