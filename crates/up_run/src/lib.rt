@@ -10,11 +10,14 @@ mod outlet;
 pub mod pace;
 mod record;
 pub mod reporter;
+pub mod rounds;
 pub mod run;
 pub mod silence;
 mod socket;
 mod source;
+mod start;
 mod unsaid;
 
 pub use reporter::ReportOptions;
-pub use run::{Rounds, run_source};
+pub use rounds::Rounds;
+pub use run::run_source;
