@@ -16,7 +16,9 @@ returns-in_ok-reload_by-in-Some g c config c' input i s known =
     by_file : (o : Option JobDef) → file_of i d ≡ o → Some c.in-Some.signal ≡ option_map (λ (job : JobDef). job.reload_signal) o
         → g.B.Book.stands c.reload_by.new.book Stepping config (entries_of (length c') (reload_at (length c') (file_of i d) c.args.who.now (Some i) d) ++ d)
     by_file None is same = absurd cc
-    by_file (Some job) is same = rw is (c.in_ok-reload_by-in-Some.ensures config job cc c' input i s known)
+    by_file (Some job) is same =
+        let signal : c.in-Some.signal ≡ job.reload_signal = cc in
+        rw is (c.in_ok-reload_by-in-Some.ensures config job signal c' input i s known)
 
 pub returns-in_ok-refuse-in-None : goal.returns-in_ok-refuse-in-None
 returns-in_ok-refuse-in-None g c config c' input i s known =
