@@ -12,8 +12,8 @@ use std::io::Eprint;
 use std::rt::Files;
 use up_compare::compare;
 use up_conf::{Folder, JobDef};
-use up_disk::read_bytes;
-use up_disk::walk::{cannot_walk, walk};
+use up_disk::walk::walk;
+use up_disk::{WalkError, read_bytes};
 use up_image::{ImageError, Table};
 use up_model::ExitStatus;
 use up_print::check::check_and_compile;
@@ -68,7 +68,8 @@ fn load_dir<R: Files + Eprint + AllocGlobal + Clone + Drop>(
 {
     match walk(rt, dir) {
         Ok(folder) => load_walked(rt.alloc(), &folder),
-        Err(error) => Ok(Loaded::Refused(cannot_walk(rt.alloc(), &error)?)),
+        Err(WalkError::Unusable(path)) => lost(rt.alloc(), path.as_str()),
+        Err(WalkError::Memory) => Err(AllocError),
     }
 }
 
@@ -115,7 +116,8 @@ fn load_other_dir<R: Files + Eprint + AllocGlobal + Clone + Drop>(
 {
     match walk(rt, dir) {
         Ok(folder) => load_named(rt.alloc(), dir, &folder),
-        Err(error) => Ok(Loaded::Refused(cannot_walk(rt.alloc(), &error)?)),
+        Err(WalkError::Unusable(path)) => lost(rt.alloc(), path.as_str()),
+        Err(WalkError::Memory) => Err(AllocError),
     }
 }
 
