@@ -46,8 +46,8 @@ use up_job::InstanceKey;
 use up_model::{Answer, Event, EventId, Failure, Goal, Input, Output, Process, State};
 use up_text::{Env, Items, Text};
 
-/// What an engine keeps of the past: what it must still know, and what a step asks for. An engine takes an input in by `given`, then
-/// tells what comes of it, entry by entry, and ends the step by `rest`.
+/// What an engine keeps of the past: what it must still know, and what a step asks for. An engine begins a step with `begin_step`, reports
+/// what the input causes, entry by entry, and ends the step with `end_step`.
 ///
 /// A job is named by its index in the table, and an instance by its index among those of its job, in byte order of their names: so `make`
 /// and `leave` change which instance a key stands for.

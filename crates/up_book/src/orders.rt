@@ -73,10 +73,7 @@ pub fn action_of(job: &JobDef, process: Process) -> Option<&Action>
 fn has_stop_env(process: Process) -> bool
     ensures { result ≡ has_stop_env process }
 {
-    match process {
-        Process::PreStop | Process::PostStop => true,
-        Process::Main | Process::PreStart | Process::PostStart => false,
-    }
+    matches!(process, Process::PreStop | Process::PostStop)
 }
 
 fn env_or_empty(alloc: Global, found: Option<&Env>) -> Result<Env, AllocError>

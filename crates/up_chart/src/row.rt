@@ -70,16 +70,10 @@ pub(crate) fn new_row(place: u64, time: u64) -> Row
 pub(crate) fn is_up(state: State) -> bool
     ensures { result ≡ is_up state }
 {
-    match state {
-        State::Spawned | State::PostStart | State::Running => true,
-        State::Waiting
-        | State::Starting
-        | State::PreStart
-        | State::PreStop
-        | State::Stopping
-        | State::Killed
-        | State::PostStop => false,
-    }
+    matches!(
+        state,
+        State::Spawned | State::PostStart | State::Running
+    )
 }
 
 fn start_began_after(state: State, time: u64, start_began: Option<u64>) -> Option<u64>

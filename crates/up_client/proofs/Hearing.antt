@@ -4,7 +4,7 @@ use Rattle.std.specs.List.{flat_map, AllByRecursion}
 use Rattle.std.specs.Io.KnownBytes.{Consumes}
 use Rattle.std.specs.Str.{is_utf8}
 use Rattle.up_model.specs.declared.request.Answer.{Answer}
-use Rattle.up_wire.specs.Frames.{Bytes}
+use Rattle.up_model.specs.Values.{Bytes}
 use Rattle.up_wire.specs.Answers.{answer_frames, AnswerFrames}
 use Rattle.up_client.specs.Asking.{Hears}
 

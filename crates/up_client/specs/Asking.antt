@@ -5,7 +5,8 @@ use Rattle.up_model.specs.Requests.{RequestValue}
 use Rattle.up_model.specs.declared.request.Answer.{Answer}
 use Rattle.up_wire.specs.declared.fault.WireFault.{WireFault}
 use Rattle.up_wire.specs.declared.fault.WireFault.TheVariants.{FrameTooLarge, BadFrame, BadWord, Memory}
-use Rattle.up_wire.specs.Frames.{Bytes, max_payload, payload_of, request_frame}
+use Rattle.up_model.specs.Values.{Bytes}
+use Rattle.up_wire.specs.Frames.{max_payload, payload_of, request_frame}
 use Rattle.up_wire.specs.Answers.{answer_frames}
 
 -- the frame of the request that words are; or why there is none

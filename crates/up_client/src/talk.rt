@@ -1,6 +1,6 @@
 //! One question and its answer over a stream.
 ghost use Rattle.std.specs.Prelude.{◌≡◌, ◌++◌, [], ◌∷◌, None, Some, drop, IfOk, MatchOption};
-ghost use Rattle.up_wire.specs.Frames.{Bytes};
+ghost use Rattle.up_model.specs.Values.{Bytes};
 ghost use Rattle.up_client.specs.Asking.{BeginsWith, Hears};
 
 use std::alloc::Global;

@@ -5,12 +5,11 @@ ghost use Rattle.up_stanza.specs.declared.fault.FaultCode.TheVariants.{Memory};
 ghost use Rattle.up_conf.specs.Folders.{job_of_file, jobs_of, spot_of_file, IsReport};
 ghost use Rattle.up_conf.specs.Outcomes.{AreFaults};
 
-use crate::folder::{File, Folder};
+use crate::folder_index::FolderIndex;
 use crate::job::JobDef;
 use crate::order::{sort_faults, sort_jobs};
 use crate::outcome::file_outcome;
 use crate::parsed::Overrides;
-use crate::paths::Paths;
 use crate::report::{Fault, Report};
 use std::alloc::{AllocError, Global};
 use up_stanza::ConfFault;
@@ -36,17 +35,17 @@ fn keep(
 }
 
 // The jobs and the faults of files, in their order.
-fn read_files(alloc: Global, files: &[File]) -> Result<(Vec<JobDef>, Vec<Fault>), AllocError>
-    ensures jobs { IfOk result (λ read. read.0.items ≡ filter_map (job_of_file files.now) files.now) }
+fn read_files(alloc: Global, index: &FolderIndex) -> Result<(Vec<JobDef>, Vec<Fault>), AllocError>
+    ensures jobs { IfOk result (λ read. read.0.items ≡ filter_map (job_of_file index.now) index.now) }
     ensures faults { IfOk result (λ read. AreFaults
-        (filter_map (spot_of_file files.now) files.now) read.1.items) }
+        (filter_map (spot_of_file index.now) index.now) read.1.items) }
 {
-    let paths = Paths::new(alloc, files)?;
+    let files = index.files();
     let mut overrides = Overrides::new(alloc);
     let mut jobs: Vec<JobDef> = Vec::new(alloc);
     let mut faults: Vec<Fault> = Vec::new(alloc);
     for file in files {
-        let outcome = file_outcome(alloc, &paths, &mut overrides, file)?;
+        let outcome = file_outcome(alloc, index, &mut overrides, file)?;
         keep(&mut jobs, &mut faults, outcome)?;
     }
     Ok((jobs, faults))
@@ -54,11 +53,14 @@ fn read_files(alloc: Global, files: &[File]) -> Result<(Vec<JobDef>, Vec<Fault>)
 
 // The same in order.
 #[tactic(auto, unfolding(crate::specs::Folders::jobs_of))]
-fn read_in_order(alloc: Global, files: &[File]) -> Result<(Vec<JobDef>, Vec<Fault>), AllocError>
-    ensures jobs { IfOk result (λ read. read.0.items ≡ jobs_of files.now) }
-    ensures report { IfOk result (λ read. IsReport files.now read.1.items) }
+fn read_in_order(
+    alloc: Global,
+    index: &FolderIndex,
+) -> Result<(Vec<JobDef>, Vec<Fault>), AllocError>
+    ensures jobs { IfOk result (λ read. read.0.items ≡ jobs_of index.now) }
+    ensures report { IfOk result (λ read. IsReport index.now read.1.items) }
 {
-    let (mut jobs, mut faults) = read_files(alloc, files)?;
+    let (mut jobs, mut faults) = read_files(alloc, index)?;
     sort_jobs(&mut jobs)?;
     sort_faults(&mut faults)?;
     Ok((jobs, faults))
@@ -66,11 +68,11 @@ fn read_in_order(alloc: Global, files: &[File]) -> Result<(Vec<JobDef>, Vec<Faul
 
 /// Reads the files of a folder whose paths end in `.conf`, each with its override: the jobs of those that are readable, and the faults
 /// of the others.
-pub fn read_folder(alloc: Global, folder: &Folder) -> Result<(Items<JobDef>, Report), ConfFault>
-    ensures jobs { IfOk result (λ read. read.0 ≡ jobs_of folder.now) }
-    ensures report { IfOk result (λ read. IsReport folder.now read.1) }
+pub fn read_folder(alloc: Global, index: &FolderIndex) -> Result<(Items<JobDef>, Report), ConfFault>
+    ensures jobs { IfOk result (λ read. read.0 ≡ jobs_of index.now) }
+    ensures report { IfOk result (λ read. IsReport index.now read.1) }
     ensures refused { IfErr result (λ fault. fault.code ≡ Memory) }
 {
-    let (jobs, faults) = read_in_order(alloc, folder.as_slice())?;
+    let (jobs, faults) = read_in_order(alloc, index)?;
     Ok((Items::new(jobs), Report::new(faults)))
 }

@@ -2,19 +2,19 @@
 ghost use Rattle.std.specs.Prelude.{◌≡◌, ◌++◌, ℕ, List, Result, [], IfOk, OnErr, true, unwrap_or, None, Some, option_map, option_and_then, option_copied, if◌then◌else◌, codes};
 ghost use Rattle.std.specs.Result.{result_ok, result_err};
 ghost use Rattle.up_text.specs.Names.{is_name};
-ghost use Rattle.up_conf.specs.Folders.{bytes_at, has_conf, job_name, overridden_name, override_of, job_in, job_of_file, spot_in, spot_of_file};
+ghost use Rattle.up_conf.specs.Folders.{bytes_at, job_name, overridden_name, override_of, job_in, job_of_file, spot_in, spot_of_file};
 ghost use Rattle.up_conf.specs.Jobs.{job_of};
 ghost use Rattle.up_conf.specs.Outcomes.{IsFault};
 ghost use Rattle.up_stanza.specs.Confs.{conf_of};
 ghost use Rattle.up_stanza.specs.Reading.{IsConf};
 ghost use Rattle.up_stanza.specs.declared.stanza.Stanza.{Stanza};
 
-use crate::ending::{conf_path, job_name, overridden_name, override_path};
+use crate::ending::{job_name, overridden_name, override_path};
 use crate::folder::File;
+use crate::folder_index::FolderIndex;
 use crate::job::JobDef;
 use crate::meaning::apply_override;
 use crate::parsed::Overrides;
-use crate::paths::Paths;
 use crate::report::Fault;
 use std::alloc::{AllocError, Global};
 use up_stanza::{ConfFault, FaultCode, Stanzas, read_bytes};
@@ -38,14 +38,14 @@ fn make_name(alloc: Global, text: &str) -> Result<Option<Name>, AllocError>
 // The bytes of a job's override.
 fn override_bytes<'a>(
     alloc: Global,
-    paths: &Paths<'a>,
+    index: &FolderIndex<'a>,
     name: &str,
 ) -> Result<Option<&'a [u8]>, AllocError>
     ensures { IfOk result (λ found. option_map (λ bytes. bytes.now) found
-        ≡ bytes_at (name.now ++ codes ".override") paths.now) }
+        ≡ bytes_at (name.now ++ codes ".override") index.now) }
 {
     let path = override_path(alloc, name)?;
-    Ok(paths.bytes_at(path.as_str()))
+    Ok(index.bytes_at(path.as_str()))
 }
 
 // A file's fault, as it is reported.
@@ -122,16 +122,16 @@ fn define_over<'a>(
 #[tactic(auto, unfolding(crate::specs::Folders::override_of))]
 fn define<'a>(
     alloc: Global,
-    paths: &Paths<'a>,
+    index: &FolderIndex<'a>,
     overrides: &mut Overrides<'a>,
     key: &'a str,
     name: Name,
     stanzas: &Stanzas,
 ) -> Result<JobDef, AllocError>
     ensures { IfOk result (λ job. job
-        ≡ job_of name (stanzas.now ++ override_of paths.now key.now)) }
+        ≡ job_of name (stanzas.now ++ override_of index.now key.now)) }
 {
-    match override_bytes(alloc, paths, key)? {
+    match override_bytes(alloc, index, key)? {
         Some(bytes) => define_over(alloc, overrides, key, bytes, name, stanzas),
         None => {
             let none = no_stanzas(alloc);
@@ -146,13 +146,13 @@ fn define<'a>(
 #[tactic(auto, unfolding(crate::specs::Folders::job_in, crate::specs::Folders::line_in))]
 fn read_job<'a>(
     alloc: Global,
-    paths: &Paths<'a>,
+    index: &FolderIndex<'a>,
     overrides: &mut Overrides<'a>,
     file: &File,
     key: &'a str,
 ) -> Result<Result<JobDef, Fault>, AllocError>
     requires { job_name file.now.path ≡ Some key.now }
-    ensures job { IfOk result (λ read. result_ok read ≡ job_in paths.now key.now file.now.bytes) }
+    ensures job { IfOk result (λ read. result_ok read ≡ job_in index.now key.now file.now.bytes) }
     ensures fault { IfOk result (λ read. IsFault (spot_in file.now) (result_err read)) }
 {
     let Some(name) = make_name(alloc, key)? else {
@@ -164,20 +164,12 @@ fn read_job<'a>(
     };
     match read_bytes(alloc, file.bytes.as_slice())? {
         Ok(stanzas) => {
-            let job = define(alloc, paths, overrides, key, name, &stanzas);
+            let job = define(alloc, index, overrides, key, name, &stanzas);
             drop(stanzas);
             Ok(Ok(job?))
         }
         Err(fault) => Ok(Err(tell(&file.path, fault)?)),
     }
-}
-
-// Whether a job's own file is there.
-fn has_conf(alloc: Global, paths: &Paths, name: &str) -> Result<bool, AllocError>
-    ensures { IfOk result (λ has. has ≡ has_conf paths.now (Some name.now)) }
-{
-    let path = conf_path(alloc, name)?;
-    Ok(paths.bytes_at(path.as_str()).is_some())
 }
 
 // The fault of an override, if it has one.
@@ -202,17 +194,17 @@ fn override_fault(
 #[tactic(auto, unfolding(crate::specs::Folders::line_in))]
 fn read_other<'a>(
     alloc: Global,
-    paths: &Paths<'a>,
+    index: &FolderIndex<'a>,
     overrides: &mut Overrides<'a>,
     file: &'a File,
 ) -> Result<Option<Fault>, AllocError>
     requires { job_name file.now.path ≡ None }
-    ensures { IfOk result (IsFault (spot_of_file paths.now file.now)) }
+    ensures { IfOk result (IsFault (spot_of_file index.now file.now)) }
 {
     let Some(name) = overridden_name(file.path.as_str()) else {
         return Ok(None);
     };
-    if !has_conf(alloc, paths, name)? {
+    if !index.has_conf(alloc, name)? {
         return Ok(None);
     }
     let bytes = file.bytes.as_slice();
@@ -225,20 +217,20 @@ fn read_other<'a>(
 /// What a file of a folder says: a job, a fault, or nothing.
 pub(crate) fn file_outcome<'a>(
     alloc: Global,
-    paths: &Paths<'a>,
+    index: &FolderIndex<'a>,
     overrides: &mut Overrides<'a>,
     file: &'a File,
 ) -> Result<Option<Result<JobDef, Fault>>, AllocError>
-    ensures job { IfOk result (λ read. option_and_then result_ok read ≡ job_of_file paths.now file.now) }
-    ensures fault { IfOk result (λ read. IsFault (spot_of_file paths.now file.now)
+    ensures job { IfOk result (λ read. option_and_then result_ok read ≡ job_of_file index.now file.now) }
+    ensures fault { IfOk result (λ read. IsFault (spot_of_file index.now file.now)
         (option_and_then result_err read)) }
 {
     match job_name(file.path.as_str()) {
         Some(name) => {
-            let read = read_job(alloc, paths, overrides, file, name)?;
+            let read = read_job(alloc, index, overrides, file, name)?;
             Ok(Some(read))
         }
-        None => match read_other(alloc, paths, overrides, file)? {
+        None => match read_other(alloc, index, overrides, file)? {
             Some(fault) => Ok(Some(Err(fault))),
             None => Ok(None),
         },

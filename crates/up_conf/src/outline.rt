@@ -52,11 +52,7 @@ impl<'a> Model for Outline<'a> {
 fn is_silent(console: Console) -> bool
     ensures { result ≡ is_silent console }
 {
-    match console {
-        Console::None => true,
-        Console::Log => false,
-        Console::Output => false,
-    }
+    matches!(console, Console::None)
 }
 
 fn has_exit(exits: &[Exit], exit: &Exit) -> bool

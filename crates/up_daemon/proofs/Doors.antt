@@ -3,7 +3,7 @@ use Rattle.std.proofs.Common.{◌≡◌, ◌∙◌, sym, ◌≤◌, ◌<◌, ◌
 use Rattle.std.proofs.lemmas.List.{map-append, length-map, length-take}
 use Rattle.std.specs.Prelude.{option_map}
 use Rattle.std.proofs.lemmas.Bool.{ltb-true, ltb-false}
-use Rattle.up_wire.specs.Frames.{Bytes}
+use Rattle.up_model.specs.Values.{Bytes}
 use Rattle.up_daemon.specs.declared.clients.client.Client.{Client}
 use Rattle.up_edge.specs.declared.passed.Passed.{Passed}
 use Rattle.up_edge.specs.declared.passed.Passed.TheVariants.{Read}

@@ -14,7 +14,8 @@ use Rattle.up_model.specs.declared.loaded.Loaded.{Loaded}
 use Rattle.up_model.specs.declared.output.Output.{Output}
 use Rattle.up_model.specs.declared.output.Output.TheVariants as output
 use Rattle.up_model.specs.declared.request.Answer.{Answer}
-use Rattle.up_wire.specs.Frames.{Bytes, Frames}
+use Rattle.up_model.specs.Values.{Bytes}
+use Rattle.up_wire.specs.Frames.{Frames}
 use Rattle.up_daemon.specs.Asking.{IsAsked}
 use Rattle.up_daemon.specs.Peers.{Peer, newcomer, heard, asked, answered, IsEntered, IsQueued, IsNobody}
 use Rattle.up_edge.specs.declared.passed.Passed.{Passed}

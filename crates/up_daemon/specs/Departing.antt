@@ -1,7 +1,7 @@
 -- Who is closed in a round, and why.
 use Rattle.std.specs.Prelude.{⊤, ◌≡◌, ◌≤◌, ◌⊎◌, ◌+◌, ◌++◌, ℕ, List, [], ◌∷◌, None, Some, length, map}
 use Rattle.std.specs.List.{AllByRecursion}
-use Rattle.up_wire.specs.Frames.{Bytes}
+use Rattle.up_model.specs.Values.{Bytes}
 use Rattle.up_daemon.specs.Connected.{count_of}
 use Rattle.up_daemon.specs.Counting.{faults_after}
 use Rattle.up_daemon.specs.Exchanges.{IsAmong}

@@ -8,7 +8,8 @@ use Rattle.up_model.specs.declared.output.Output.TheVariants as output
 use Rattle.up_model.specs.declared.request.Answer.{Answer}
 use Rattle.up_model.specs.declared.request.Command.TheVariants.{ReloadConfiguration}
 use Rattle.up_wire.specs.Answers.{answer_frames}
-use Rattle.up_wire.specs.Frames.{Bytes, Frames}
+use Rattle.up_model.specs.Values.{Bytes}
+use Rattle.up_wire.specs.Frames.{Frames}
 use Rattle.up_model.specs.Requests.{RequestValue}
 use Rattle.up_daemon.specs.Peers.{Peer}
 use Rattle.up_edge.specs.declared.passed.Passed.{Passed}

@@ -4,7 +4,8 @@ use Rattle.up_edge.specs.Calls.{Calls, with_entry, with_failure}
 use Rattle.up_model.specs.Requests.{RequestValue}
 use Rattle.up_model.specs.declared.request.Answer.{Answer}
 use Rattle.up_wire.specs.Answers.{answer_frames}
-use Rattle.up_wire.specs.Frames.{Bytes, Frames, Breaks}
+use Rattle.up_model.specs.Values.{Bytes}
+use Rattle.up_wire.specs.Frames.{Frames, Breaks}
 use Rattle.up_wire.specs.declared.fault.FrameFault.{FrameFault}
 use Rattle.up_daemon.specs.declared.clients.client.Client.{Client}
 use Rattle.up_daemon.specs.Peers.{peer_of, is_ready}

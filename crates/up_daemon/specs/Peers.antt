@@ -4,7 +4,7 @@ use Rattle.std.specs.List.{AllByRecursion, list_any}
 use Rattle.up_model.specs.Requests.{RequestValue}
 use Rattle.up_model.specs.declared.request.Answer.{Answer}
 use Rattle.up_wire.specs.Answers.{answer_frames}
-use Rattle.up_wire.specs.Frames.{Bytes}
+use Rattle.up_model.specs.Values.{Bytes}
 use Rattle.up_wire.specs.declared.fault.FrameFault.{FrameFault}
 use Rattle.up_daemon.specs.declared.clients.client.Client.{Client}
 

@@ -21,7 +21,8 @@ use Rattle.up_model.specs.declared.output.Output.TheVariants as output
 use Rattle.up_model.specs.declared.process.How.{How}
 use Rattle.up_model.specs.declared.request.Answer.{Answer}
 use Rattle.up_model.specs.declared.who.Who.{Who}
-use Rattle.up_wire.specs.Frames.{Bytes, Frames}
+use Rattle.up_model.specs.Values.{Bytes}
+use Rattle.up_wire.specs.Frames.{Frames}
 use Rattle.up_daemon.specs.Asking.{IsAsked}
 use Rattle.up_daemon.specs.Answering.{outputs_in}
 use Rattle.up_daemon.specs.Hearing.{most_waiting, IsPiece, IsBroken}

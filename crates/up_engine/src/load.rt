@@ -78,16 +78,7 @@ fn load_or_refuse<B: Book>(
 pub(crate) fn is_load(given: &Input) -> bool
     ensures { result ≡ is_load given.now }
 {
-    match given {
-        Input::Load { .. } => true,
-        Input::Emit(_)
-        | Input::Request { .. }
-        | Input::Spawned { .. }
-        | Input::Refused { .. }
-        | Input::Ended { .. }
-        | Input::Clock(_)
-        | Input::Turn => false,
-    }
+    matches!(given, Input::Load { .. })
 }
 
 /// Carries out a load that the book has taken in.

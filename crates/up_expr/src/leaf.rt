@@ -115,10 +115,7 @@ fn test_holds(
 fn is_positional(test: &Test) -> bool
     ensures { result ≡ is_positional test.now }
 {
-    match test {
-        Test::Place(_) => true,
-        Test::Same(_, _) | Test::Differs(_, _) => false,
-    }
+    matches!(test, Test::Place(_))
 }
 
 // Whether all tests hold, if the first positional value is for the first variable.

@@ -69,10 +69,7 @@ pub(crate) fn make_test(alloc: Global, parts: Parts) -> Result<Test, AllocError>
 pub(crate) fn is_positional(parts: Parts) -> bool
     ensures { result ≡ values.is_positional (test_in parts.entry) }
 {
-    match parts {
-        Parts::Place(_) => true,
-        Parts::Same(_, _) | Parts::Differs(_, _) => false,
-    }
+    matches!(parts, Parts::Place(_))
 }
 
 // Refuses a value that is no good expansion or no supported pattern.

@@ -4,7 +4,7 @@ use std::alloc::{AllocError, Global};
 use std::test::Fail;
 use up_advice::graph::graph;
 use up_advice::push_advice;
-use up_conf::{Folder, JobDef, Report, read_folder};
+use up_conf::{Folder, FolderIndex, JobDef, Report, read_folder};
 
 const SAID: &'static str = "    setuid root\n    `setuid` is left out: ";
 
@@ -35,7 +35,10 @@ fn a_fault_is_explained_and_a_job_is_drawn(rt: HostRuntime) -> Result<(), Fail> 
             ("b.conf", b"# b\nsetuid root\n"),
         ],
     )?;
-    let (jobs, report) = read_folder(alloc, &folder)?;
+    let index = FolderIndex::new(alloc, &folder)?;
+    let read = read_folder(alloc, &index);
+    drop(index);
+    let (jobs, report) = read?;
     let said = is_said(alloc, &folder, &report)?;
     let drawn = is_drawn(alloc, jobs.as_slice())?;
     drop(jobs);

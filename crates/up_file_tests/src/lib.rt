@@ -17,3 +17,5 @@ mod model;
 mod signals;
 #[cfg(test)]
 mod text;
+#[cfg(test)]
+mod values;

@@ -3,8 +3,8 @@ use crate::conf::folder_of;
 use std::alloc::{AllocError, Global};
 use std::test::Fail;
 use up_image::{Table, compile};
-use up_model::{Command, Event, How, Input, Loaded, Process, Request, Who};
-use up_text::{Env, Name, Text, TextFault};
+use up_model::{Answer, Command, Event, How, Input, Loaded, Order, Output, Process, Request, Who};
+use up_text::{Env, Items, Name, Text, TextFault};
 
 fn who(alloc: Global) -> Result<Who, TextFault> {
     let job = Name::new(alloc, "a")?;
@@ -203,6 +203,108 @@ fn copies_of_inputs(rt: HostRuntime) -> Result<(), Fail> {
     for kind in 0..10u8 {
         assert!(rt; input_is_copied(rt.alloc(), kind)?, "kind {kind}");
     }
+    Ok(())
+}
+
+fn argv(alloc: Global) -> Result<Items<Text>, AllocError> {
+    let mut argv = Vec::new(alloc);
+    argv.push(Text::from_str(alloc, "/bin/d")?)?;
+    Ok(Items::new(argv))
+}
+
+fn order(alloc: Global) -> Result<Order, TextFault> {
+    Ok(Order {
+        who: who(alloc)?,
+        process: PROCESS,
+        argv: argv(alloc)?,
+        dir: Text::from_str(alloc, "/")?,
+        silent: true,
+        env: vars(alloc)?,
+    })
+}
+
+fn is_argv(argv: &[Text]) -> bool {
+    match argv {
+        [word] => word.is("/bin/d"),
+        _ => false,
+    }
+}
+
+fn is_order(order: &Order) -> bool {
+    is_who(&order.who)
+        && order.process == PROCESS
+        && is_argv(order.argv.as_slice())
+        && order.dir.is("/")
+        && order.silent
+        && are_vars(&order.env)
+}
+
+fn answer(alloc: Global) -> Result<Answer, TextFault> {
+    let text = Text::from_str(alloc, "a stop/waiting\n")?;
+    Ok(Answer { ok: true, text })
+}
+
+fn is_answer(answer: &Answer) -> bool {
+    answer.ok && answer.text.is("a stop/waiting\n")
+}
+
+// One output of each kind.
+fn output(alloc: Global, kind: u8) -> Result<Output, TextFault> {
+    let made = match kind {
+        0 => Output::Spawn(order(alloc)?),
+        1 => Output::Signal {
+            who: who(alloc)?,
+            pid: 100,
+            signal: 15,
+        },
+        2 => Output::Emitted(event(alloc)?),
+        _ => Output::Reply {
+            id: 7,
+            answer: answer(alloc)?,
+        },
+    };
+    Ok(made)
+}
+
+// Whether it is the output of this kind.
+fn is_output(kind: u8, output: &Output) -> bool {
+    match output {
+        Output::Spawn(order) => kind == 0 && is_order(order),
+        Output::Signal { who, pid, signal } => {
+            kind == 1 && is_who(who) && *pid == 100 && *signal == 15
+        }
+        Output::Emitted(event) => kind == 2 && is_event(event),
+        Output::Reply { id, answer } => kind == 3 && *id == 7 && is_answer(answer),
+    }
+}
+
+fn copy_is_output(alloc: Global, kind: u8, output: &Output) -> Result<bool, AllocError> {
+    let copied = output.copy(alloc)?;
+    let is_output = is_output(kind, &copied);
+    drop(copied);
+    Ok(is_output)
+}
+
+fn output_is_copied(alloc: Global, kind: u8) -> Result<bool, TextFault> {
+    let output = output(alloc, kind)?;
+    let copied = copy_is_output(alloc, kind, &output);
+    drop(output);
+    Ok(copied?)
+}
+
+#[test]
+fn copies_of_outputs(rt: HostRuntime) -> Result<(), Fail> {
+    for kind in 0..4u8 {
+        assert!(rt; output_is_copied(rt.alloc(), kind)?, "kind {kind}");
+    }
+    Ok(())
+}
+
+#[test]
+fn answers_are_copied(rt: HostRuntime) -> Result<(), Fail> {
+    let answer = answer(rt.alloc())?;
+    let copied = answer.copy()?;
+    assert!(rt; is_answer(&copied));
     Ok(())
 }
 

@@ -10,7 +10,7 @@ use crate::refusal::CompileError;
 use crate::table::Table;
 use crate::twice::has_same_path;
 use std::alloc::Global;
-use up_conf::{Folder, Report, read_folder};
+use up_conf::{Folder, FolderIndex, Report, read_folder};
 
 // Refuses a folder in which a path that is read stands twice.
 fn check_apart(twice: bool) -> Result<(), CompileError>
@@ -49,9 +49,10 @@ pub fn compile(alloc: Global, folder: &Folder) -> Result<(Table, Report), Compil
     ensures given { IfOk result (λ made. are_definable made.0 ≡ true) }
     ensures refused { IfErr result (MayRefuse folder.now) }
 {
-    let twice = has_same_path(alloc, folder.as_slice())?;
+    let index = FolderIndex::new(alloc, folder)?;
+    let twice = has_same_path(alloc, &index)?;
     check_apart(twice)?;
-    let Ok((jobs, report)) = read_folder(alloc, folder) else {
+    let Ok((jobs, report)) = read_folder(alloc, &index) else {
         return Err(CompileError::Memory);
     };
     check_few(jobs.as_slice().len() <= MAX_JOBS)?;

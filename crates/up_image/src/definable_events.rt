@@ -56,10 +56,7 @@ fn are_tests(tests: &[Test]) -> bool
 fn is_positional(test: &Test) -> bool
     ensures { result ≡ values.is_positional test.now }
 {
-    match test {
-        Test::Place(_) => true,
-        Test::Same(_, _) | Test::Differs(_, _) => false,
-    }
+    matches!(test, Test::Place(_))
 }
 
 // Whether no positional value stands after a keyed one.
@@ -112,11 +109,7 @@ fn are_leaves(condition: &Condition) -> bool
 fn is_lone(branch: &Branch) -> bool
     ensures { result ≡ definable.is_lone branch.now }
 {
-    match branch.root() {
-        Root::Leaf(_) => true,
-        Root::And(_, _) => false,
-        Root::Or(_, _) => false,
-    }
+    matches!(branch.root(), Root::Leaf(_))
 }
 
 // Whether parentheses so deep are enough for an expression.

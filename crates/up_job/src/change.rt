@@ -42,18 +42,7 @@ pub enum Change {
 fn is_starting(state: State) -> bool
     ensures { result ≡ is_starting state }
 {
-    match state {
-        State::Starting => true,
-        State::Waiting
-        | State::PreStart
-        | State::Spawned
-        | State::PostStart
-        | State::Running
-        | State::PreStop
-        | State::Stopping
-        | State::Killed
-        | State::PostStop => false,
-    }
+    matches!(state, State::Starting)
 }
 
 // The pending environment comes into force, and the failure is forgotten.

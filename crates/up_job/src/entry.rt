@@ -8,18 +8,7 @@ use up_model::{Entry, JobEvent, Process, State};
 fn is_pre_stop(from: State) -> bool
     ensures { result ≡ life.is_pre_stop from }
 {
-    match from {
-        State::PreStop => true,
-        State::Waiting
-        | State::Starting
-        | State::PreStart
-        | State::Spawned
-        | State::PostStart
-        | State::Running
-        | State::Stopping
-        | State::Killed
-        | State::PostStop => false,
-    }
+    matches!(from, State::PreStop)
 }
 
 // Entering a state without anything else.

@@ -79,26 +79,17 @@ fn judge_other(process: Process, how: How) -> Verdict
 fn is_judged_in(state: State) -> bool
     ensures { result ≡ model.is_judged_in state }
 {
-    match state {
-        State::PostStart | State::Running | State::PreStop => true,
-        State::Waiting
-        | State::Starting
-        | State::PreStart
-        | State::Spawned
-        | State::Stopping
-        | State::Killed
-        | State::PostStop => false,
-    }
+    matches!(
+        state,
+        State::PostStart | State::Running | State::PreStop
+    )
 }
 
 // Whether the end of main counts.
 fn counts(goal: Goal, state: State) -> bool
     ensures { result ≡ (is_start goal && model.is_judged_in state) }
 {
-    match goal {
-        Goal::Start => is_judged_in(state),
-        Goal::Stop => false,
-    }
+    goal.is_start() && is_judged_in(state)
 }
 
 /// What the end or the refusal of a process does, by the goal and the state of its instance, by whether the job is a `task` and has `respawn`,

@@ -12,18 +12,7 @@ use up_model::{Process, State};
 fn is_killed(state: State) -> bool
     ensures { result ≡ clock.is_killed state }
 {
-    match state {
-        State::Killed => true,
-        State::Waiting
-        | State::Starting
-        | State::PreStart
-        | State::Spawned
-        | State::PostStart
-        | State::Running
-        | State::PreStop
-        | State::Stopping
-        | State::PostStop => false,
-    }
+    matches!(state, State::Killed)
 }
 
 fn has_passed(moment: Option<u64>, now: u64, span: u64) -> bool

@@ -77,17 +77,7 @@ fn take_up(events: &mut Events, id: EventId)
 fn is_blocking(state: State) -> bool
     ensures { result ≡ read.is_blocking state }
 {
-    match state {
-        State::Starting | State::Stopping => true,
-        State::Waiting
-        | State::PreStart
-        | State::Spawned
-        | State::PostStart
-        | State::Running
-        | State::PreStop
-        | State::Killed
-        | State::PostStop => false,
-    }
+    matches!(state, State::Starting | State::Stopping)
 }
 
 fn later_of(now: u64, reading: u64) -> u64

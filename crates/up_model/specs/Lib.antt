@@ -1,5 +1,4 @@
--- The values that a run speaks of.
-pub mod Values
+pub use Rattle.up_value.specs.Values
 -- Signals as they are written.
 pub mod Signals
 -- What a run stands on.

@@ -15,10 +15,7 @@ impl Goal {
     pub fn is_start(self) -> bool
         ensures { result ≡ is_start self }
     {
-        match self {
-            Goal::Start => true,
-            Goal::Stop => false,
-        }
+        matches!(self, Goal::Start)
     }
 
     /// The goal as a client reads it.
@@ -51,35 +48,13 @@ impl State {
     pub fn is_waiting(self) -> bool
         ensures { result ≡ is_waiting self }
     {
-        match self {
-            State::Waiting => true,
-            State::Starting
-            | State::PreStart
-            | State::Spawned
-            | State::PostStart
-            | State::Running
-            | State::PreStop
-            | State::Stopping
-            | State::Killed
-            | State::PostStop => false,
-        }
+        matches!(self, State::Waiting)
     }
 
     pub fn is_running(self) -> bool
         ensures { result ≡ is_running self }
     {
-        match self {
-            State::Running => true,
-            State::Waiting
-            | State::Starting
-            | State::PreStart
-            | State::Spawned
-            | State::PostStart
-            | State::PreStop
-            | State::Stopping
-            | State::Killed
-            | State::PostStop => false,
-        }
+        matches!(self, State::Running)
     }
 
     /// The state as a client reads it.

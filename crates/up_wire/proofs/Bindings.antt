@@ -6,7 +6,7 @@ use Rattle.std.proofs.lemmas.Option.{none-some}
 use Rattle.std.proofs.lemmas.Slice.Eq.{bytes_eq-Decides}
 use Rattle.up_text.specs.Names.{is_key, is_value}
 use Rattle.up_text.specs.Bindings.{value_of, set_in, has_key, are_bindings}
-use Rattle.up_wire.specs.Frames.{Bytes, Variables}
+use Rattle.up_model.specs.Values.{Bytes, Bindings}
 
 flip : (xs ys : Bytes) → bytes_eq xs ys ≡ false → bytes_eq ys xs ≡ false
 flip xs ys differ = false_from_ne_true (bytes_eq ys xs) (λ same. both_ways (bytes_eq xs ys) differ ((bytes_eq-Decides xs ys).1 (sym ((bytes_eq-Decides ys xs).0 same))))
@@ -16,7 +16,7 @@ either true absent h = absurd (both_ways true h refl)
 either false absent h = (refl, h)
 
 -- a key that isn't there goes last
-pub set_in-absent : (key value : Bytes) (vars : Variables) → value_of key vars ≡ None → set_in key value vars ≡ vars ++ (key, value) ∷ []
+pub set_in-absent : (key value : Bytes) (vars : Bindings) → value_of key vars ≡ None → set_in key value vars ≡ vars ++ (key, value) ∷ []
 set_in-absent key value [] absent = refl
 set_in-absent key value (binding ∷ vars) absent = by_case (bytes_eq key binding.0) absent (set_in-absent key value vars)
   where
@@ -27,31 +27,31 @@ set_in-absent key value (binding ∷ vars) absent = by_case (bytes_eq key bindin
     by_case false h ih = rw (ih h) refl
 
 -- what the test says of the first pair and of the others
-record Leads (binding : Bytes × Bytes) (vars : Variables) : Type 0 where
+record Leads (binding : Bytes × Bytes) (vars : Bindings) : Type 0 where
   key : is_key binding.0 ≡ true
   value : is_value binding.1 ≡ true
   apart : has_key binding.0 vars ≡ false
   rest : are_bindings vars ≡ true
 
-leads : (binding : Bytes × Bytes) (vars : Variables) → are_bindings (binding ∷ vars) ≡ true → Leads binding vars
+leads : (binding : Bytes × Bytes) (vars : Bindings) → are_bindings (binding ∷ vars) ≡ true → Leads binding vars
 leads binding vars are =
     let all = and_parts _ _ are in
     let front = and_parts _ _ all.0 in
     let both = and_parts _ _ front.0 in
     record { key = both.0; value = both.1; apart = not-true _ front.1; rest = all.1 }
 
-apart_from-middle : (other key value : Bytes) (vars added : Variables) → has_key other (vars ++ (key, value) ∷ added) ≡ false → bytes_eq other key ≡ false
+apart_from-middle : (other key value : Bytes) (vars added : Bindings) → has_key other (vars ++ (key, value) ∷ added) ≡ false → bytes_eq other key ≡ false
 apart_from-middle other key value [] added h = (either (bytes_eq other key) (has_key other added) h).0
 apart_from-middle other key value (binding ∷ vars) added h =
     apart_from-middle other key value vars added (either (bytes_eq other binding.0) (has_key other (vars ++ (key, value) ∷ added)) h).1
 
 -- what holds of a pair among distinct ones
-pub record Stands (key value : Bytes) (vars : Variables) : Type 0 where
+pub record Stands (key value : Bytes) (vars : Bindings) : Type 0 where
   pub key_is : is_key key ≡ true
   pub value_is : is_value value ≡ true
   pub absent : value_of key vars ≡ None
 
-pub stands-middle : (key value : Bytes) (vars added : Variables) → are_bindings (vars ++ (key, value) ∷ added) ≡ true → Stands key value vars
+pub stands-middle : (key value : Bytes) (vars added : Bindings) → are_bindings (vars ++ (key, value) ∷ added) ≡ true → Stands key value vars
 stands-middle key value [] added are =
     let first = leads (key, value) added are in
     record { key_is = first.key; value_is = first.value; absent = refl }

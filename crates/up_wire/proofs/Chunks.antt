@@ -1,7 +1,8 @@
 -- The frames of an answer, one after another.
 use Rattle.std.proofs.Common.{◌≡◌, ◌<◌, ◌≤◌, ◌+◌, ◌*◌, ℕ, suc, Bool, ◌∷◌, ◌++◌, length, take, drop, refl, sym, ap, ◌∙◌, length-drop, arith}
 use Rattle.std.proofs.lemmas.List.{append_assoc, drop-drop}
-use Rattle.up_wire.specs.Frames.{Bytes, frame}
+use Rattle.up_model.specs.Values.{Bytes}
+use Rattle.up_wire.specs.Frames.{frame}
 use Rattle.up_wire.specs.Answers.{max_chunk, chunk_frame, chunk_frames, full_frames, verdict_number, frames_of}
 
 none_before : (text : Bytes) → length text ≤ max_chunk → full_frames text ≡ 0

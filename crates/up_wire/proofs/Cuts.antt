@@ -9,7 +9,8 @@ use Rattle.byteorder.specs.Endian.{big_number}
 use Rattle.up_model.specs.Requests.{RequestValue}
 use Rattle.up_wire.specs.declared.fault.FrameFault.{FrameFault}
 use Rattle.up_wire.specs.declared.fault.FrameFault.TheVariants.{TooLarge, Malformed}
-use Rattle.up_wire.specs.Frames.{Bytes, max_payload, frame, payload_of, request_frame, IsSendable, IsFaulty, Frames, is_partial}
+use Rattle.up_model.specs.Values.{Bytes}
+use Rattle.up_wire.specs.Frames.{max_payload, frame, payload_of, request_frame, IsSendable, IsFaulty, Frames, is_partial}
 use Rattle.up_wire.specs.Fields.{request_in}
 use Rattle.up_wire.proofs.Numbers.{length_again}
 use Rattle.up_wire.proofs.Payloads.{request_again}

@@ -1,7 +1,7 @@
 -- A word that is cut at its first `=`.
 use Rattle.std.proofs.Common.{◌≡◌, ℕ, ◌+◌, ◌<◌, [], ◌∷◌, drop, get_or, map, ap, add-one, drop-cons, option_and_then, List, Option, None, Some, length, Bor, ◌∙◌, sym, option_map, Result, Err, Bool, not, arith}
 use Rattle.std.proofs.lemmas.List.{get_or-map, length-map}
-use Rattle.up_wire.specs.Frames.{Bytes, Variables}
+use Rattle.up_model.specs.Values.{Bytes, Bindings}
 use Rattle.up_wire.specs.declared.fault.WireFault.{WireFault}
 use Rattle.up_wire.specs.declared.fault.WireFault.TheVariants.{FrameTooLarge, BadFrame, BadWord, Memory}
 use Rattle.up_model.specs.Requests.{RequestValue}
@@ -14,7 +14,7 @@ abbrev pub texts : List (Bor Bytes) → List Bytes
 texts = map (λ word. word.now)
 
 -- the variables of the words from a place on
-pub words_left : (words : List (Bor Bytes)) (i : ℕ) (vars : Variables) (d : Bor Bytes) → i < length words → with_words vars (drop i (texts words)) ≡ option_and_then (λ more. with_words more (drop (i + 1) (texts words))) (with_word (get_or words i d).now vars)
+pub words_left : (words : List (Bor Bytes)) (i : ℕ) (vars : Bindings) (d : Bor Bytes) → i < length words → with_words vars (drop i (texts words)) ≡ option_and_then (λ more. with_words more (drop (i + 1) (texts words))) (with_word (get_or words i d).now vars)
 words_left words i vars d within =
     let size : length (texts words) ≡ length words = length-map words (λ word. word.now) in
     let one : drop i (texts words) ≡ get_or (texts words) i [] ∷ drop (i + 1) (texts words) = rw add-one (drop-cons (texts words) i [] (omega (arith, size, within))) in
@@ -22,12 +22,12 @@ words_left words i vars d within =
     ap (with_words vars) one ∙ ap (λ word. option_and_then (λ more. with_words more (drop (i + 1) (texts words))) (with_word word vars)) its
 
 -- a word that was set
-pub words_next : (words : List (Bor Bytes)) (i : ℕ) (vars next : Variables) (d : Bor Bytes) → i < length words → with_words vars (drop i (texts words)) ≡ with_words [] (texts words) → with_word (get_or words i d).now vars ≡ Some next → with_words next (drop (i + 1) (texts words)) ≡ with_words [] (texts words)
+pub words_next : (words : List (Bor Bytes)) (i : ℕ) (vars next : Bindings) (d : Bor Bytes) → i < length words → with_words vars (drop i (texts words)) ≡ with_words [] (texts words) → with_word (get_or words i d).now vars ≡ Some next → with_words next (drop (i + 1) (texts words)) ≡ with_words [] (texts words)
 words_next words i vars next d within so_far its =
     sym (words_left words i vars d within ∙ ap (option_and_then (λ more. with_words more (drop (i + 1) (texts words)))) its) ∙ so_far
 
 -- a word that was refused
-pub words_stop : (fault : WireFault) (words : List (Bor Bytes)) (i : ℕ) (vars next : Variables) (d : Bor Bytes) → i < length words → with_words vars (drop i (texts words)) ≡ with_words [] (texts words) → Sets (Err fault) next (with_word (get_or words i d).now vars) → Makes {Y = Variables} (Err fault) (with_words [] (texts words))
+pub words_stop : (fault : WireFault) (words : List (Bor Bytes)) (i : ℕ) (vars next : Bindings) (d : Bor Bytes) → i < length words → with_words vars (drop i (texts words)) ≡ with_words [] (texts words) → Sets (Err fault) next (with_word (get_or words i d).now vars) → Makes {Y = Bindings} (Err fault) (with_words [] (texts words))
 words_stop FrameTooLarge words i vars next d within so_far its = absurd its
 words_stop BadFrame words i vars next d within so_far its = absurd its
 words_stop BadWord words i vars next d within so_far its =

@@ -7,7 +7,7 @@ use Rattle.std.specs.Str.Parse.{ParsesBool}
 use Rattle.std.proofs.lemmas.Bool.{false_from_ne_true}
 use Rattle.std.proofs.lemmas.Slice.Eq.{bytes_eq-Decides}
 use Rattle.clap.specs.Matches.{ReadsOne}
-use Rattle.up_wire.specs.Frames.{Bytes}
+use Rattle.up_model.specs.Values.{Bytes}
 
 -- a flag is set exactly if its text is `true`
 pub flag_is : (E : Type 0) (read : Option Bytes) (found : Option Bool) → (read ≡ None → found ≡ None) → ((t : Bytes) → read ≡ Some t → ReadsOne {T = Bool} {E = E} ParsesBool t found) → unwrap_or found false ≡ option_map_or (λ text. bytes_eq text (codes "true")) read false

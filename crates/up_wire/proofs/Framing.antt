@@ -7,7 +7,8 @@ use Rattle.std.proofs.lemmas.Grind.{flat_map-append}
 use Rattle.byteorder.specs.Endian.{big_bytes}
 use Rattle.up_model.specs.Requests.{RequestValue}
 use Rattle.up_wire.specs.declared.fault.FrameFault.TheVariants.{Malformed}
-use Rattle.up_wire.specs.Frames.{Bytes, max_payload, frame, payload_of, request_frame, IsSendable, IsFaulty}
+use Rattle.up_model.specs.Values.{Bytes}
+use Rattle.up_wire.specs.Frames.{max_payload, frame, payload_of, request_frame, IsSendable, IsFaulty}
 use Rattle.up_wire.specs.Octets.{AreOctets}
 use Rattle.up_wire.specs.Fields.{request_in, Refuses}
 use Rattle.up_wire.specs.Feeding.{Begins, Stops}

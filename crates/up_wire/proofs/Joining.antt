@@ -4,7 +4,8 @@ use Rattle.std.proofs.lemmas.List.{append_assoc, append-nil, take-append-le, dro
 use Rattle.std.specs.Str.{is_utf8}
 use Rattle.std.proofs.lemmas.Option.{cond_some, none-some}
 use Rattle.up_model.specs.declared.request.Answer.{Answer}
-use Rattle.up_wire.specs.Frames.{Bytes, frame, max_payload, wait_number}
+use Rattle.up_model.specs.Values.{Bytes}
+use Rattle.up_wire.specs.Frames.{frame, max_payload, wait_number}
 use Rattle.up_wire.proofs.Payloads.{wait_takes}
 use Rattle.up_wire.specs.Answers.{verdict_of, with_text, if_text_is, is_nothing, last_in, answer_frames, max_chunk, chunk_frame, chunk_frames, full_frames, verdict_number, frames_of, Opens}
 

@@ -11,7 +11,8 @@ use Rattle.up_text.specs.Bindings.{are_bindings}
 use Rattle.up_model.specs.Requests.{RequestValue, is_request}
 use Rattle.up_model.specs.declared.request.Command.{Command}
 use Rattle.up_model.specs.declared.request.Command.TheVariants as command
-use Rattle.up_wire.specs.Frames.{Bytes, Variables, short_text, variable, command_number, wait_number, payload_of, are_texts, IsSendable}
+use Rattle.up_model.specs.Values.{Bytes, Bindings}
+use Rattle.up_wire.specs.Frames.{short_text, variable, command_number, wait_number, payload_of, are_texts, IsSendable}
 use Rattle.up_wire.specs.Octets.{AreOctets}
 use Rattle.up_wire.specs.Fields.{number_at, text_at, variables_at, command_of, wait_of, if_request, about_at, request_in}
 use Rattle.up_wire.proofs.Numbers.{Takes, number_takes, number_again}
@@ -77,13 +78,13 @@ pub record IsPayload (bytes : Bytes) (request : RequestValue) : Type 0 where
   pub bindings : are_bindings request.vars ≡ true
   pub texts : are_texts request ≡ true
 
-request_parts : (its : Command) (wait : Bool) (name : Bytes) (vars : Variables) (left : Bytes) (request : RequestValue) → if_request its wait name (vars, left) ≡ Some request → (left ≡ []) × (is_request its wait name vars ≡ true) × (record { command = its; wait = wait; name = name; vars = vars } ≡ request)
+request_parts : (its : Command) (wait : Bool) (name : Bytes) (vars : Bindings) (left : Bytes) (request : RequestValue) → if_request its wait name (vars, left) ≡ Some request → (left ≡ []) × (is_request its wait name vars ≡ true) × (record { command = its; wait = wait; name = name; vars = vars } ≡ request)
 request_parts its wait name vars [] request h =
     let parts = cond_some (is_request its wait name vars) (record { command = its; wait = wait; name = name; vars = vars }) request h in
     (refl, parts.0, parts.1)
 request_parts its wait name vars (byte ∷ left) request h = absurd (none-some request h)
 
-about_whole : (its : Command) (wait : Bool) (bytes name after after_count left : Bytes) (vars : Variables) (count : ℕ) → Takes bytes (short_text name) after → Takes after (big_bytes 2 count) after_count → Takes after_count (flat_map variable vars) left → left ≡ [] → length vars ≡ count → command_number its ∷ wait_number wait ∷ bytes ≡ payload_of (record { command = its; wait = wait; name = name; vars = vars })
+about_whole : (its : Command) (wait : Bool) (bytes name after after_count left : Bytes) (vars : Bindings) (count : ℕ) → Takes bytes (short_text name) after → Takes after (big_bytes 2 count) after_count → Takes after_count (flat_map variable vars) left → left ≡ [] → length vars ≡ count → command_number its ∷ wait_number wait ∷ bytes ≡ payload_of (record { command = its; wait = wait; name = name; vars = vars })
 unfolding payload_of
 about_whole its wait bytes name after after_count left vars count p q r none same =
     let both = takes_two bytes (short_text name) (big_bytes 2 count) after after_count p q in
@@ -127,7 +128,7 @@ request_takes (first ∷ second ∷ bytes) request are h =
     payload_by first second bytes its wait request (command_takes first its read_its) (wait_takes second wait read_wait) (about_takes its wait bytes request are.1.1 h3)))
 
 -- there are no more variables than bytes
-pub vars_within : (vars : Variables) → length vars ≤ length (flat_map variable vars)
+pub vars_within : (vars : Bindings) → length vars ≤ length (flat_map variable vars)
 vars_within [] = omega arith
 vars_within (binding ∷ vars) =
     let size : length (flat_map variable (binding ∷ vars)) ≡ length (variable binding) + length (flat_map variable vars) = length-append (variable binding) (flat_map variable vars) in
@@ -142,7 +143,7 @@ length-payload_of request =
     let all : length (request.name ++ big_bytes 2 (length request.vars) ++ flat_map variable request.vars) ≡ length (request.name ++ big_bytes 2 (length request.vars)) + length (flat_map variable request.vars) = length-append (request.name ++ big_bytes 2 (length request.vars)) (flat_map variable request.vars) in
     omega (arith, front, all)
 
-about_grouped : (its : Command) (wait : Bool) (name : Bytes) (vars : Variables) → length name < 65536 → length (flat_map variable vars) < 65536 → is_utf8 name ≡ true → list_all is_text_pair vars ≡ true → are_bindings vars ≡ true → is_request its wait name vars ≡ true → about_at its wait (short_text name ++ (big_bytes 2 (length vars) ++ flat_map variable vars)) ≡ Some (record { command = its; wait = wait; name = name; vars = vars })
+about_grouped : (its : Command) (wait : Bool) (name : Bytes) (vars : Bindings) → length name < 65536 → length (flat_map variable vars) < 65536 → is_utf8 name ≡ true → list_all is_text_pair vars ≡ true → are_bindings vars ≡ true → is_request its wait name vars ≡ true → about_at its wait (short_text name ++ (big_bytes 2 (length vars) ++ flat_map variable vars)) ≡ Some (record { command = its; wait = wait; name = name; vars = vars })
 unfolding about_at
 about_grouped its wait name vars short_name short_vars valid texts bindings sound =
     let nothing : flat_map variable vars ≡ flat_map variable vars ++ [] = sym (append-nil (flat_map variable vars)) in
@@ -152,7 +153,7 @@ about_grouped its wait name vars short_name short_vars valid texts bindings soun
     ∙ (ap (λ found. option_and_then (if_request its wait name) found) (variables_again vars [] [] bindings texts short_vars)
     ∙ rw sound refl)))
 
-about_again : (its : Command) (wait : Bool) (name : Bytes) (vars : Variables) → length name < 65536 → length (flat_map variable vars) < 65536 → is_utf8 name ≡ true → list_all is_text_pair vars ≡ true → are_bindings vars ≡ true → is_request its wait name vars ≡ true → about_at its wait (short_text name ++ big_bytes 2 (length vars) ++ flat_map variable vars) ≡ Some (record { command = its; wait = wait; name = name; vars = vars })
+about_again : (its : Command) (wait : Bool) (name : Bytes) (vars : Bindings) → length name < 65536 → length (flat_map variable vars) < 65536 → is_utf8 name ≡ true → list_all is_text_pair vars ≡ true → are_bindings vars ≡ true → is_request its wait name vars ≡ true → about_at its wait (short_text name ++ big_bytes 2 (length vars) ++ flat_map variable vars) ≡ Some (record { command = its; wait = wait; name = name; vars = vars })
 about_again its wait name vars short_name short_vars valid texts bindings sound =
     ap (about_at its wait) (append_assoc (short_text name) (big_bytes 2 (length vars)) (flat_map variable vars))
     ∙ about_grouped its wait name vars short_name short_vars valid texts bindings sound

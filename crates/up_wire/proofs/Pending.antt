@@ -8,7 +8,8 @@ use Rattle.up_wire.specs.declared.fault.FrameFault.{FrameFault}
 use Rattle.up_wire.specs.declared.fault.FrameFault.TheVariants.{TooLarge}
 use Rattle.up_wire.specs.declared.fault.WireFault.{WireFault}
 use Rattle.up_wire.specs.declared.fault.WireFault.TheVariants.{FrameTooLarge, BadFrame, BadWord, Memory}
-use Rattle.up_wire.specs.Frames.{Bytes, frame, max_payload, is_partial, IsFaulty}
+use Rattle.up_model.specs.Values.{Bytes}
+use Rattle.up_wire.specs.Frames.{frame, max_payload, is_partial, IsFaulty}
 use Rattle.up_wire.specs.Fault.{wire_fault}
 use Rattle.up_wire.specs.Feeding.{FeedValue, frame_fault, refused}
 use Rattle.up_wire.specs.Fields.{Refuses}

@@ -6,7 +6,8 @@ use Rattle.std.proofs.lemmas.Option.{cond_some, option_and_then_some}
 use Rattle.std.proofs.lemmas.List.{take-append-drop, length-take-le, take_at, drop_at, append_assoc}
 use Rattle.std.proofs.lemmas.Bool.Decides.{nat_tests}
 use Rattle.byteorder.specs.Endian.{big_bytes}
-use Rattle.up_wire.specs.Frames.{Bytes, short_text}
+use Rattle.up_model.specs.Values.{Bytes}
+use Rattle.up_wire.specs.Frames.{short_text}
 use Rattle.up_wire.specs.Octets.{AreOctets}
 use Rattle.up_wire.specs.Fields.{number_at, split_at, if_text, text_at}
 use Rattle.up_wire.proofs.Numbers.{Takes, number_takes, number_again, drop_octets}

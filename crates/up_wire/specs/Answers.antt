@@ -11,7 +11,8 @@ use Rattle.up_wire.specs.declared.fault.FrameFault.{FrameFault}
 use Rattle.up_wire.specs.declared.fault.FrameFault.TheVariants.{TooLarge, Malformed}
 use Rattle.up_wire.specs.declared.fault.WireFault.{WireFault}
 use Rattle.up_wire.specs.declared.fault.WireFault.TheVariants.{FrameTooLarge, BadFrame, BadWord, Memory}
-use Rattle.up_wire.specs.Frames.{Bytes, max_payload, frame, is_partial, IsFaulty}
+use Rattle.up_model.specs.Values.{Bytes}
+use Rattle.up_wire.specs.Frames.{max_payload, frame, is_partial, IsFaulty}
 
 -- the text of a full frame
 abbrev pub max_chunk : ℕ

@@ -4,7 +4,8 @@ use Rattle.up_wire.specs.declared.fault.FrameFault.{FrameFault}
 use Rattle.up_wire.specs.declared.fault.FrameFault.TheVariants.{TooLarge, Malformed}
 use Rattle.up_wire.specs.declared.fault.WireFault.{WireFault}
 use Rattle.up_wire.specs.declared.fault.WireFault.TheVariants.{FrameTooLarge, BadFrame, BadWord, Memory}
-use Rattle.up_wire.specs.Frames.{Bytes, IsFaulty, Breaks}
+use Rattle.up_model.specs.Values.{Bytes}
+use Rattle.up_wire.specs.Frames.{IsFaulty, Breaks}
 
 -- a refusal whose cause is the first frame of the bytes, or that memory ran out
 abbrev pub Begins : WireFault → Bytes → Type 0

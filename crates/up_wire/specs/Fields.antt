@@ -9,7 +9,7 @@ use Rattle.up_model.specs.declared.request.Command.{Command}
 use Rattle.up_model.specs.declared.request.Command.TheVariants as command
 use Rattle.up_wire.specs.declared.fault.WireFault.{WireFault}
 use Rattle.up_wire.specs.declared.fault.WireFault.TheVariants.{FrameTooLarge, BadFrame, BadWord, Memory}
-use Rattle.up_wire.specs.Frames.{Bytes, Variables}
+use Rattle.up_model.specs.Values.{Bytes, Bindings}
 
 abbrev pub byte_at : Bytes → Option (ℕ × Bytes)
 byte_at [] = None
@@ -30,16 +30,16 @@ unfoldable pub text_at : Bytes → Option (Bytes × Bytes)
 text_at bytes = option_and_then (λ counted. option_and_then if_text (split_at counted)) (number_at 2 bytes)
 
 -- variables with one more, if it may be there
-abbrev pub with_variable : Variables → Bytes → Bytes × Bytes → Option (Variables × Bytes)
+abbrev pub with_variable : Bindings → Bytes → Bytes × Bytes → Option (Bindings × Bytes)
 with_variable vars key value =
     if is_key key && is_value value.0 && is_none (value_of key vars)
     then Some (set_in key value.0 vars, value.1) else None
 
-unfoldable pub variable_at : Variables → Bytes → Option (Variables × Bytes)
+unfoldable pub variable_at : Bindings → Bytes → Option (Bindings × Bytes)
 variable_at vars bytes =
     option_and_then (λ key. option_and_then (with_variable vars key.0) (text_at key.1)) (text_at bytes)
 
-abbrev pub variables_at : ℕ → Variables → Bytes → Option (Variables × Bytes)
+abbrev pub variables_at : ℕ → Bindings → Bytes → Option (Bindings × Bytes)
 variables_at zero vars bytes = Some (vars, bytes)
 variables_at (suc count) vars bytes =
     option_and_then (λ more. variables_at count more.0 more.1) (variable_at vars bytes)
@@ -62,7 +62,7 @@ abbrev pub wait_of : ℕ → Option Bool
 wait_of byte = if byte == 0 then Some true else (if byte == 1 then Some false else None)
 
 -- the request of these parts, if nothing follows them and they are one
-abbrev pub if_request : Command → Bool → Bytes → Variables × Bytes → Option RequestValue
+abbrev pub if_request : Command → Bool → Bytes → Bindings × Bytes → Option RequestValue
 if_request its wait name (vars, []) =
     if is_request its wait name vars then Some (record {
       command = its;

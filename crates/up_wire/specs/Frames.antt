@@ -5,18 +5,12 @@ use Rattle.std.specs.List.{list_all, flat_map, AllByRecursion}
 use Rattle.std.specs.Str.{is_utf8}
 use Rattle.byteorder.specs.Endian.{big_bytes, big_number}
 use Rattle.up_text.specs.Bindings.{are_bindings}
+use Rattle.up_model.specs.Values.{Bytes, Bindings}
 use Rattle.up_model.specs.Requests.{RequestValue, is_request}
 use Rattle.up_model.specs.declared.request.Command.{Command}
 use Rattle.up_model.specs.declared.request.Command.TheVariants as command
 use Rattle.up_wire.specs.declared.fault.FrameFault.{FrameFault}
 use Rattle.up_wire.specs.declared.fault.FrameFault.TheVariants.{TooLarge, Malformed}
-
--- the bytes of a text, and the variables of a request
-abbrev pub Bytes : Type 0
-Bytes = List ℕ
-
-abbrev pub Variables : Type 0
-Variables = List (Bytes × Bytes)
 
 -- the greatest length of a payload
 abbrev pub max_payload : ℕ

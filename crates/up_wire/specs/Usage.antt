@@ -7,7 +7,7 @@ use Rattle.clap.specs.declared.builder.command.Command.TheViews.{out-Command}
 use Rattle.clap.specs.declared.builder.ArgAction.TheVariants.{Set, Append, SetTrue}
 use Rattle.up_model.specs.Requests.{command_name, commands, is_alone, may_wait}
 use Rattle.up_model.specs.declared.request.Command.{Command as Asked}
-use Rattle.up_wire.specs.Frames.{Bytes}
+use Rattle.up_model.specs.Values.{Bytes}
 
 -- the name of a job or an event, which has to be there
 abbrev pub name_rule : Rule

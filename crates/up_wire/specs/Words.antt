@@ -10,14 +10,14 @@ use Rattle.up_model.specs.Requests.{RequestValue, command_named, is_request}
 use Rattle.up_model.specs.declared.request.Command.{Command}
 use Rattle.up_wire.specs.declared.fault.WireFault.{WireFault}
 use Rattle.up_wire.specs.declared.fault.WireFault.TheVariants.{FrameTooLarge, BadFrame, BadWord, Memory}
-use Rattle.up_wire.specs.Frames.{Bytes, Variables}
+use Rattle.up_model.specs.Values.{Bytes, Bindings}
 
 -- variables with one more; a key that is there takes the new value
-abbrev pub with_binding : Bytes → Bytes → Variables → Option Variables
+abbrev pub with_binding : Bytes → Bytes → Bindings → Option Bindings
 with_binding key value vars = if is_key key && is_value value then Some (set_in key value vars) else None
 
 -- variables with that of a word KEY=VALUE, which is cut at its first `=`
-abbrev pub with_word : Bytes → Variables → Option Variables
+abbrev pub with_word : Bytes → Bindings → Option Bindings
 with_word word vars =
     if has_equals word
     then with_binding (before_first is_equals word) (after_first is_equals word) vars else None
@@ -29,12 +29,12 @@ is_binding word =
     && (is_key (before_first is_equals word) && is_value (after_first is_equals word))
 
 -- variables with those of words, each set in turn
-abbrev pub with_words : Variables → List Bytes → Option Variables
+abbrev pub with_words : Bindings → List Bytes → Option Bindings
 with_words vars [] = Some vars
 with_words vars (word ∷ words) = option_and_then (λ more. with_words more words) (with_word word vars)
 
 -- the request of these parts, if they are one
-abbrev pub if_sound : Command → Bool → Bytes → Variables → Option RequestValue
+abbrev pub if_sound : Command → Bool → Bytes → Bindings → Option RequestValue
 if_sound its wait name vars =
     if is_request its wait name vars then Some (record {
       command = its;
@@ -80,7 +80,7 @@ Makes (Err FrameTooLarge) wanted = ⊥
 Makes (Err BadFrame) wanted = ⊥
 
 -- the same, of variables that are changed in place
-abbrev pub Sets : Result Unit WireFault → Variables → Option Variables → Type 0
+abbrev pub Sets : Result Unit WireFault → Bindings → Option Bindings → Type 0
 Sets (Ok done) vars wanted = wanted ≡ Some vars
 Sets (Err BadWord) vars wanted = wanted ≡ None
 Sets (Err Memory) vars wanted = Unit {0}

@@ -2,7 +2,7 @@
 ghost use Rattle.std.specs.Prelude.{◌≡◌, ◌++◌, ◌∷◌, None, Some, Err, [], take, drop, length, IfOk, IfErr, IfSome};
 ghost use Rattle.up_wire.specs.declared.fault.WireFault.TheVariants.{Memory};
 ghost use Rattle.up_wire.specs.Fault.{wire_fault};
-ghost use Rattle.up_wire.specs.Frames.{Bytes};
+ghost use Rattle.up_model.specs.Values.{Bytes};
 ghost use Rattle.up_wire.specs.Answers.{AnswerFrames, AnswersStop, AreFull, Opens, pending};
 ghost use Rattle.up_wire.specs.Feeding.{refused};
 

@@ -3,7 +3,7 @@ ghost use Rattle.std.specs.Prelude.{◌≡◌, ◌≤◌, ◌++◌, ◌∷◌, [
 ghost use Rattle.std.specs.Str.{is_utf8};
 ghost use Rattle.up_wire.specs.Fields.{Reads};
 ghost use Rattle.up_wire.specs.declared.fault.WireFault.TheVariants.{Memory};
-ghost use Rattle.up_wire.specs.Frames.{Bytes};
+ghost use Rattle.up_model.specs.Values.{Bytes};
 ghost use Rattle.up_wire.specs.Answers.{max_chunk, is_chunk, last_in, verdict_of, answer_frames, Opens, IsOpen, AnswerFrames, AnswerBegins, AnswersStop, LiesAhead, KeepsWhole};
 
 use crate::fault::WireFault;

@@ -1,6 +1,6 @@
 //! Reads the fields of a payload.
 ghost use Rattle.std.specs.Prelude.{◌≡◌, option_map};
-ghost use Rattle.up_wire.specs.Frames.{Bytes};
+ghost use Rattle.up_model.specs.Values.{Bytes};
 ghost use Rattle.up_wire.specs.Fields.{Reads, byte_at, number_at, text_at, with_variable, if_request, variable_at, variables_at, command_of, wait_of, about_at, request_in};
 
 use crate::fault::WireFault;

@@ -5,7 +5,8 @@ ghost use Rattle.up_text.specs.Names.{is_name};
 ghost use Rattle.up_model.specs.Requests.{RequestValue, is_alone, may_wait};
 ghost use Rattle.up_model.specs.declared.request.Command.{Command};
 ghost use Rattle.up_wire.specs.declared.fault.FrameFault.{FrameFault};
-ghost use Rattle.up_wire.specs.Frames.{Bytes, Frames, Breaks};
+ghost use Rattle.up_model.specs.Values.{Bytes};
+ghost use Rattle.up_wire.specs.Frames.{Frames, Breaks};
 ghost use Rattle.up_wire.specs.Words.{is_binding, request_with};
 
 /// Feeding two pieces is feeding their sum: the requests of both, in order, and the rest of the second.

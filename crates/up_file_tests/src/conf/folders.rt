@@ -3,7 +3,7 @@ use crate::conf::jobs::{Fact, first_unstated};
 use crate::conf::{add, folder_of};
 use std::alloc::{AllocError, Global};
 use std::test::Fail;
-use up_conf::{ConfFault, Folder, JobDef, Report, read_folder};
+use up_conf::{ConfFault, Folder, FolderIndex, JobDef, Report, read_folder};
 
 // A folder's files, its jobs with what they say, and its faults: their path, line and number, and the name of some.
 struct Case {
@@ -142,7 +142,10 @@ fn first_other(
     folder: &Folder,
     case: &Case,
 ) -> Result<Option<&'static str>, ConfFault> {
-    match read_folder(alloc, folder) {
+    let index = FolderIndex::new(alloc, folder)?;
+    let read = read_folder(alloc, &index);
+    drop(index);
+    match read {
         Ok((jobs, report)) => {
             let job = first_other_job(jobs.as_slice(), case.jobs);
             drop(jobs);
@@ -204,7 +207,10 @@ fn unstarted(jobs: &[JobDef]) -> usize {
 type Counts = (usize, usize, bool);
 
 fn counts(alloc: Global, folder: &Folder) -> Result<Counts, ConfFault> {
-    let (jobs, report) = read_folder(alloc, folder)?;
+    let index = FolderIndex::new(alloc, folder)?;
+    let read = read_folder(alloc, &index);
+    drop(index);
+    let (jobs, report) = read?;
     let counts = (
         jobs.as_slice().len(),
         unstarted(jobs.as_slice()),
@@ -229,5 +235,48 @@ fn counts_of_many(alloc: Global, count: u32) -> Result<Counts, ConfFault> {
 #[test]
 fn many_files_are_read(rt: HostRuntime) -> Result<(), Fail> {
     assert_eq!(rt; counts_of_many(rt.alloc(), 1024)?, (1024, 1024, true));
+    Ok(())
+}
+
+// Whether each of a folder's files is read.
+const READ: &[(&str, bool)] = &[
+    ("a.conf", true),
+    ("a.override", true),
+    ("b.override", false),
+    ("notes", false),
+];
+
+fn folder_of_paths(alloc: Global) -> Result<Folder, AllocError> {
+    let mut folder = Folder::new(alloc);
+    for (path, _) in READ {
+        add(alloc, &mut folder, path, b"exec x\n")?;
+    }
+    Ok(folder)
+}
+
+// The first path of which the index reports something else.
+fn first_other_path(
+    alloc: Global,
+    index: &FolderIndex,
+) -> Result<Option<&'static str>, AllocError> {
+    for (path, read) in READ {
+        if index.is_read(alloc, path)? != *read {
+            return Ok(Some(*path));
+        }
+    }
+    Ok(None)
+}
+
+#[test]
+fn an_override_is_read_if_its_file_is_there(rt: HostRuntime) -> Result<(), Fail> {
+    let alloc = rt.alloc();
+    let folder = folder_of_paths(alloc)?;
+    let index = FolderIndex::new(alloc, &folder)?;
+    let files = index.files().len();
+    let other = first_other_path(alloc, &index);
+    drop(index);
+    drop(folder);
+    assert_eq!(rt; files, READ.len());
+    assert_eq!(rt; other?, None);
     Ok(())
 }

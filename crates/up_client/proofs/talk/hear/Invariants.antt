@@ -1,5 +1,5 @@
 use Rattle.std.proofs.Common.{◌≡◌, ◌++◌, None, Some}
-use Rattle.up_wire.specs.Frames.{Bytes}
+use Rattle.up_model.specs.Values.{Bytes}
 use Rattle.up_client.proofs.talk.hear.Given as goal
 
 -- the bytes that are known at first are those that the feed holds, and those that are left

@@ -1,5 +1,5 @@
 use Rattle.std.proofs.Common.{◌≡◌, ◌≤◌, take, length}
-use Rattle.up_wire.specs.Frames.{Bytes}
+use Rattle.up_model.specs.Values.{Bytes}
 use Rattle.up_wire.specs.Answers.{Opens}
 use Rattle.up_wire.proofs.answers.join_full.Given as goal
 

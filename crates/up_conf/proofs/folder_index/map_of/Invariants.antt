@@ -1,7 +1,7 @@
 use Rattle.std.proofs.Common.{◌≡◌, List, ℕ, take}
 use Rattle.up_conf.specs.Folders.{bytes_at}
 use Rattle.up_conf.specs.Lookups.{found_at}
-use Rattle.up_conf.proofs.paths.map_of.Given as goal
+use Rattle.up_conf.proofs.folder_index.map_of.Given as goal
 
 -- the map has the files so far
 abbrev pub invariant-loop-file : goal.invariant-loop-file

@@ -2,7 +2,7 @@ use Rattle.std.proofs.Common.{◌∙◌, sym, ap, take}
 use Rattle.up_conf.specs.Folders.{bytes_at}
 use Rattle.up_conf.specs.Lookups.{also}
 use Rattle.up_conf.proofs.Lookups.{bytes_at_more}
-use Rattle.up_conf.proofs.paths.map_of.Goals as goal
+use Rattle.up_conf.proofs.folder_index.map_of.Goals as goal
 
 pub loop-file-preserved : goal.loop-file-preserved
 loop-file-preserved c = λ path.
