@@ -70,7 +70,7 @@ fn push_indented(text: &mut Vec<u8>, line: &[u8]) -> Result<(), AllocError>
     Ok(())
 }
 
-// Appends a line at fault, unless the bytes may not be text.
+// Appends a line at fault, unless the file might not be text.
 fn push_shown(text: &mut Vec<u8>, code: FaultCode, line: &[u8]) -> Result<(), AllocError>
     ensures { OnOk result (text.new.items ≡ text.old.items ++ shown_line code line.now) }
 {
@@ -80,7 +80,7 @@ fn push_shown(text: &mut Vec<u8>, code: FaultCode, line: &[u8]) -> Result<(), Al
     }
 }
 
-/// Appends the lines below a fault of one of these files: the line at fault as it is in the file, unless the file may not be text, and a
+/// Appends the lines below a fault of one of these files: the line at fault as it is in the file, unless the file might not be text, and a
 /// sentence on what is wrong and what to do.
 #[tactic(auto, unfolding(crate::specs::Advice::advice_lines))]
 pub fn push_advice(text: &mut Vec<u8>, files: &[File], fault: &Fault) -> Result<(), AllocError>

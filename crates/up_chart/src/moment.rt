@@ -177,7 +177,7 @@ fn push_heard(moments: &mut Vec<Moment>, time: u64, given: &Input) -> Result<(),
     }
 }
 
-// The state in which the process runs.
+// The state in which the process is started.
 fn state_by(process: Process) -> State
     ensures { result ≡ state_by process }
 {
@@ -190,7 +190,7 @@ fn state_by(process: Process) -> State
     }
 }
 
-// The instance given by JOB and INSTANCE, `None` if either is missing.
+// The instance named by JOB and INSTANCE, `None` if either is missing.
 fn instance_of(alloc: Global, vars: &Env) -> Result<Option<Text>, AllocError>
     ensures { IfOk result (λ who. who ≡ instance_of (value_of (codes "JOB") vars.now) (value_of (codes "INSTANCE") vars.now)) }
 {
@@ -204,7 +204,7 @@ fn instance_of(alloc: Global, vars: &Env) -> Result<Option<Text>, AllocError>
     Ok(Some(name))
 }
 
-// The instance that a process's environment gives as that of the event that started its own, the last one of an instance's life.
+// The instance of the last event of an instance's life that started this one, by the environment of its process.
 fn source_of(alloc: Global, process: Process, env: &Env) -> Result<Option<Text>, AllocError>
     ensures { IfOk result (λ source. source ≡ source_of process env.now) }
 {

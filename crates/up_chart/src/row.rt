@@ -15,9 +15,9 @@ pub struct Row {
     pub state: State,
     /// The time at which it entered it.
     pub since: u64,
-    /// Whether the events that started it have been reported.
+    /// Whether a sign of it has reported the events that started it.
     pub told: bool,
-    /// Whether it has been reported that a client started it.
+    /// Whether a sign of it has reported that a client started it.
     pub asked: bool,
     /// The time at which it began to start, while it is starting.
     pub start_began: Option<u64>,

@@ -1,11 +1,11 @@
-//! Why an expression is refused.
+//! Why an expression is rejected.
 ghost use Rattle.std.specs.Prelude.{◌≡◌};
 ghost use Rattle.up_expr.specs.Fault.{number_of};
 
 use std::alloc::AllocError;
 use thiserror::Error;
 
-/// Why an expression is refused.
+/// Why an expression is rejected.
 #[derive(Clone, Copy, Debug, PartialEq, Eq, Error)]
 pub enum ExprFault {
     /// A name, an operator or a parenthesis is missing, or is where none is allowed.

@@ -5,7 +5,7 @@ use crate::expr::Leaf;
 use std::marker::Model;
 use up_text::Items;
 
-/// A node of an expression. Its sides are given by their positions among the nodes.
+/// A node of an expression. Its sides are positions among the nodes.
 #[derive(Debug, Drop)]
 pub enum Node {
     /// An event that the leaf matches.

@@ -1,11 +1,11 @@
-//! Why a text is refused.
+//! Why a text is rejected.
 ghost use Rattle.std.specs.Prelude.{◌≡◌};
 ghost use Rattle.up_value.specs.Fault.{number_of};
 
 use std::alloc::AllocError;
 use thiserror::Error;
 
-/// Why a text, a name, an environment or a token is refused.
+/// Why a text, a name, an environment or a token is rejected.
 #[derive(Clone, Copy, Debug, PartialEq, Eq, Error)]
 pub enum TextFault {
     /// A quote is still open at the end of the text.
