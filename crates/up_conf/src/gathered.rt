@@ -115,7 +115,7 @@ fn put_stanzas<'a>(
     Ok(())
 }
 
-/// The settings of two files' stanzas, those of the second after those of the first.
+/// The settings of two files' stanzas; those of the second replace those of the first.
 #[tactic(auto, using(crate::proofs::Gathers::summed_both))]
 pub(crate) fn gather_env(
     alloc: Global,

@@ -26,13 +26,13 @@ pub struct JobDef {
     pub limit: Limit,
     /// The signal that ends its main process.
     pub kill_signal: Signal,
-    /// The number of seconds after which the main process is killed.
+    /// The seconds from that signal until the main process is killed.
     pub kill_timeout: u32,
     /// The signal by which its main process is asked to read its configuration again; HUP without the stanza.
     pub reload_signal: Signal,
     /// The variables that it sets in its environment; the keys are distinct.
     pub env: Items<Setting>,
-    /// The keys of the variables in its events; they are distinct.
+    /// The keys of the variables that its events carry; they are distinct.
     pub export: Items<Text>,
     /// The ends of its main process that aren't failures; they are distinct.
     pub normal: Items<Exit>,

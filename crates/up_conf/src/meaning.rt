@@ -36,8 +36,8 @@ fn define(alloc: Global, name: Name, conf: &[Stanza], over: &[Stanza]) -> Result
     outline.into_job(alloc, name, env, export)
 }
 
-/// The job that stanzas define: the last of each kind counts, `env`, `export` and `normal exit` add up, and `manual` removes each `start
-/// on` before it.
+/// The job that stanzas define: the last of each kind counts, `env`, `export` and `normal exit` add up, and `manual` removes each earlier
+/// `start on`.
 #[tactic(auto, using(crate::proofs::Meanings::none_after))]
 pub fn job_of(alloc: Global, name: Name, stanzas: &Stanzas) -> Result<JobDef, AllocError>
     ensures { IfOk result (λ job. job ≡ job_of name stanzas.now) }

@@ -83,7 +83,7 @@ fn keep_leaf(alloc: Global, tokens: &[Token]) -> Result<Option<Parsed>, ExprFaul
     }
 }
 
-// The leaf in front, and the rest after it.
+// The leaf at the start, and the rest after it.
 fn read_operand(alloc: Global, tokens: &[Token]) -> Result<(Option<Parsed>, &[Token]), ExprFault>
     requires { begins values.is_open tokens.now ≡ false }
     ensures read { IfOk result (λ found. (tree : Tree) × Keeps found.0 tree
@@ -101,7 +101,7 @@ fn read_operand(alloc: Global, tokens: &[Token]) -> Result<(Option<Parsed>, &[To
     }
 }
 
-// The opening parenthesis in front, if there is one, and the rest after it.
+// The opening parenthesis at the start, if there is one, and the rest after it.
 fn after_open(tokens: &[Token]) -> Option<(&Token, &[Token])>
     ensures { MatchOption result (begins values.is_open tokens.now
         ≡ false) (λ found. (tokens.now ≡ found.0.now ∷ found.1.now) × (values.is_open found.0.now ≡ true)) }
@@ -122,7 +122,7 @@ fn after_close(tokens: &[Token]) -> Result<&[Token], ExprFault>
     }
 }
 
-// The operator in front, if there is one, and the rest after it.
+// The operator at the start, if there is one, and the rest after it.
 fn after_operator(tokens: &[Token]) -> Option<(&Token, &[Token])>
     ensures { MatchOption result (begins values.is_operator tokens.now
         ≡ false) (λ found. (tokens.now ≡ found.0.now ∷ found.1.now)
@@ -131,7 +131,7 @@ fn after_operator(tokens: &[Token]) -> Option<(&Token, &[Token])>
     tokens.split_first().filter(|(token, _)| is_operator(token))
 }
 
-// The leaf or the parenthesized expression in front, inside `depth` open parentheses, and the rest after it.
+// The leaf or the parenthesized expression at the start, inside `depth` open parentheses, and the rest after it.
 #[cycle(parser)]
 fn parse_item(
     alloc: Global,
@@ -161,7 +161,7 @@ fn parse_item(
     }
 }
 
-// The longest expression in front, inside `depth` open parentheses, and the rest after it.
+// The longest expression at the start, inside `depth` open parentheses, and the rest after it.
 #[cycle(parser)]
 fn parse_items(
     alloc: Global,

@@ -1,4 +1,4 @@
-//! Finds the jobs that can be started at all, if jobs wait for one another.
+//! Finds the jobs that can be started at all, as jobs may wait for one another.
 ghost use Rattle.std.specs.Prelude.{◌≡◌, IfOk, OnOk, option_copied};
 ghost use Rattle.up_lint.specs.Circles.{condition_may, job_may, leaf_may, may_start, started_after, started_in, tree_may, with_started};
 

@@ -64,7 +64,7 @@ fn read_others(
     }
 }
 
-// The words of the stanza in front, `None` if one has a fault; the lexer's position is then after the stanza.
+// The words of the next stanza, `None` if one has a fault; the lexer's position is then after the stanza.
 fn read_words(alloc: Global, lexer: &mut Lexer) -> Result<Option<Items<Text>>, AllocError>
     ensures { IfOk result (λ words. IsFound (words_at lexer.old) words lexer.new) }
 {

@@ -70,7 +70,7 @@ fn push_lines(text: &mut Vec<u8>, left_out: &[Kind], warnings: &[Warning]) -> Re
     Ok(())
 }
 
-// The same, `declared` being the events that jobs declare by `emits`.
+// Appends the lines of the warnings, `declared` being the events that jobs declare by `emits`.
 #[tactic(auto, unfolding(crate::specs::Lint::lint_by))]
 fn push_by<'a>(
     text: &mut Vec<u8>,

@@ -26,7 +26,7 @@ pub enum FaultCode {
     TrailingBackslash,
     /// An expression of events isn't well formed.
     BadExpression,
-    /// A value comes before a key.
+    /// A positional value comes after a keyed one.
     ValueBeforeKey,
     /// A number isn't well formed or is out of range.
     BadNumber,

@@ -107,7 +107,7 @@ fn no_kind(word: &str) -> FaultCode {
     }
 }
 
-/// Reads the stanza in front; the lexer's position is then after it.
+/// Reads the next stanza; the lexer's position is then after it.
 pub(crate) fn read_stanza(
     alloc: Global,
     lexer: &mut Lexer,

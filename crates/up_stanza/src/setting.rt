@@ -8,7 +8,7 @@ use up_text::Text;
 #[derive(Debug, Drop)]
 pub struct Setting {
     pub key: Text,
-    /// Its value; without one the value of init itself is kept.
+    /// Its value; without one the key keeps init's own value.
     pub value: Option<Text>,
 }
 

@@ -161,7 +161,7 @@ fn read_piece(text: &str) -> (Piece, &str)
     (Piece::Run(run), rest)
 }
 
-// The number of default texts that are open after a piece, if `depth` were before it; `None` if the piece makes the text malformed.
+// The number of default texts that are open after a piece, `depth` being open before it; `None` if the piece makes the text malformed.
 #[tactic(auto, using(crate::proofs::Nesting::piece_texts_run))]
 fn depth_after(depth: usize, piece: Piece) -> Option<usize>
     requires { depth ≤ 16 }
