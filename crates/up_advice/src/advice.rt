@@ -1,4 +1,4 @@
-//! The lines below a fault.
+//! The lines below a fault in a report.
 ghost use Rattle.std.specs.Prelude.{◌≡◌, ◌≤◌, ◌++◌, OnOk, length};
 ghost use Rattle.up_value.specs.Values.{Bytes};
 ghost use Rattle.std.specs.List.{after_first, before_first, position_or_len};
@@ -10,7 +10,7 @@ use memchr::memchr;
 use std::alloc::AllocError;
 use up_conf::{Fault, FaultCode, File};
 
-// The bytes of the file with this path.
+// Empty if no file has this path.
 fn bytes_at<'a>(files: &'a [File], path: &str) -> &'a [u8]
     ensures { result.now ≡ bytes_at files.now path.now }
 {
@@ -22,7 +22,7 @@ fn bytes_at<'a>(files: &'a [File], path: &str) -> &'a [u8]
     &[]
 }
 
-// The place of the first line feed, or the end.
+// The position of the first line feed, or the end if there is none.
 #[tactic(auto, unfolding(up_text::specs::Tokens::is_line_feed))]
 fn feed_at(text: &[u8]) -> usize
     ensures first { result ≡ position_or_len is_line_feed text.now }
@@ -31,14 +31,13 @@ fn feed_at(text: &[u8]) -> usize
     memchr(b'\n', text).unwrap_or(text.len())
 }
 
-// What stands before the first line feed.
 fn before_feed(text: &[u8]) -> &[u8]
     ensures { result.now ≡ before_first is_line_feed text.now }
 {
     &text[..feed_at(text)]
 }
 
-// What stands after the first line feed, or nothing if there is none.
+// Empty if there is no line feed.
 fn after_feed(text: &[u8]) -> &[u8]
     ensures { result.now ≡ after_first is_line_feed text.now }
 {
@@ -50,7 +49,7 @@ fn after_feed(text: &[u8]) -> &[u8]
     }
 }
 
-// A line of a text, counted from 1, without its line feed.
+// Lines are counted from 1; the result has no line feed.
 fn line_at(text: &[u8], line: u32) -> &[u8]
     ensures { result.now ≡ line_at text.now line }
 {
@@ -71,7 +70,7 @@ fn push_indented(text: &mut Vec<u8>, line: &[u8]) -> Result<(), AllocError>
     Ok(())
 }
 
-// Appends a line at fault, if it can be shown.
+// Appends a line at fault, unless the file might not be text.
 fn push_shown(text: &mut Vec<u8>, code: FaultCode, line: &[u8]) -> Result<(), AllocError>
     ensures { OnOk result (text.new.items ≡ text.old.items ++ shown_line code line.now) }
 {
@@ -81,7 +80,7 @@ fn push_shown(text: &mut Vec<u8>, code: FaultCode, line: &[u8]) -> Result<(), Al
     }
 }
 
-/// Appends the lines below a fault of one of these files: the line at fault as it stands there, unless the file may be no text, and a
+/// Appends the lines below a fault of one of these files: the line at fault as it is in the file, unless the file might not be text, and a
 /// sentence on what is wrong and what to do.
 #[tactic(auto, unfolding(crate::specs::Advice::advice_lines))]
 pub fn push_advice(text: &mut Vec<u8>, files: &[File], fault: &Fault) -> Result<(), AllocError>

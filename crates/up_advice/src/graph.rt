@@ -1,4 +1,4 @@
-//! The jobs of a folder and the events that join them, as a graph for dot(1).
+//! The jobs of a folder and the events that connect them, as a graph for dot(1).
 ghost use Rattle.std.specs.Prelude.{◌≡◌, ◌++◌, [], ◌+◌, ◌<◌, ◌^◌, OnOk, IfOk, codes, option_copied};
 ghost use Rattle.std.specs.List.{flat_map};
 ghost use Rattle.up_expr.specs.Flat.{size};
@@ -103,7 +103,7 @@ fn is_job_event(name: &str) -> bool
     name == "starting" || name == "started" || name == "stopping" || name == "stopped"
 }
 
-// The job whose event it must be, by its first value or by the variable JOB.
+// The job whose event is meant, by the first positional value or the variable JOB, whichever comes first.
 fn job_in(tests: &[Test]) -> Option<&Text>
     ensures { option_copied result ≡ job_in tests.now }
 {
@@ -121,7 +121,7 @@ fn job_in(tests: &[Test]) -> Option<&Text>
     None
 }
 
-// That a job makes its own events.
+// Appends the edge from a job to its own event.
 fn push_maker(text: &mut Vec<u8>, id: &[u8], job: Option<&Text>) -> Result<(), AllocError>
     ensures { OnOk result (text.new.items ≡ text.old.items ++ made_by id.now (option_copied job.entry)) }
 {
@@ -170,7 +170,7 @@ fn group_id(alloc: Global, owner: &[u8], place: u64) -> Result<Vec<u8>, AllocErr
     Ok(id)
 }
 
-// A group, and that it leads to a node.
+// Appends the node of a group and its edge to another node.
 #[tactic(auto, unfolding(crate::specs::Graph::group_lines))]
 fn push_head(
     text: &mut Vec<u8>,
@@ -185,7 +185,7 @@ fn push_head(
     push_edge(text, id, to, looks)
 }
 
-// An expression whose first node stands at this place, and that it leads to a node.
+// Appends an expression and its edge to a node; `first` is the number of its first node.
 #[cycle(groups)]
 fn push_tree(
     text: &mut Vec<u8>,
@@ -208,7 +208,7 @@ fn push_tree(
     }
 }
 
-// A group, that it leads to a node, and its two sides.
+// Appends a group, its edge to a node, and its two sides.
 #[cycle(groups)]
 fn push_group(
     text: &mut Vec<u8>,
@@ -231,7 +231,7 @@ fn push_group(
     push_sides(text, owner, first, id.as_slice(), left, right)
 }
 
-// The two sides of a group, which lead to it.
+// Appends the two sides of a group, with edges to it.
 #[cycle(groups)]
 fn push_sides(
     text: &mut Vec<u8>,
@@ -249,7 +249,7 @@ fn push_sides(
     push_tree(text, owner, first + left.len() as u64, id, "", right)
 }
 
-// What starts or stops a job.
+// Appends the expression that starts or stops a job, if there is one.
 fn push_condition(
     text: &mut Vec<u8>,
     name: &str,
@@ -275,7 +275,6 @@ fn push_condition(
     push_tree(text, owner.as_slice(), 0, job.as_slice(), looks, &root)
 }
 
-// The node of a job.
 fn push_box(text: &mut Vec<u8>, name: &str) -> Result<(), AllocError>
     ensures { OnOk result (text.new.items ≡ text.old.items ++ job_node name.now) }
 {

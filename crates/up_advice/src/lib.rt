@@ -1,4 +1,4 @@
-//! What is said of a faulty job file beside its line and its code: the line as it stands there, and what to do.
+//! The lines that a report adds to the line number and code of a faulty job file: the line at fault, and what to do.
 #![tactic(auto)]
 
 pub mod advice;

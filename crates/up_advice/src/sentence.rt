@@ -2,7 +2,7 @@
 
 use up_conf::FaultCode;
 
-// What takes the place of a stanza that is left out, by its first word.
+// The replacement for an unsupported stanza, by its first word.
 const LEFT_OUT: &'static [(&str, &str)] = &[
     (
         "expect",
@@ -54,7 +54,7 @@ fn is_blank(byte: u8) -> bool {
     byte == b' ' || byte == b'\t'
 }
 
-// Whether a line begins with this word, after blanks.
+// Whether a line, after its blanks, begins with this whole word.
 fn begins_with(line: &[u8], word: &str) -> bool {
     let word = word.as_bytes();
     let start = line
@@ -76,7 +76,7 @@ fn instead(line: &[u8]) -> &'static str {
     "init(5) lists what is left out, and why"
 }
 
-/// What is wrong at this line by its code, and what to do.
+/// What is wrong at this line, by the code, and what to do.
 pub(crate) fn sentence(code: FaultCode, line: &[u8]) -> &'static str {
     match code {
         FaultCode::UnknownStanza =>

@@ -1,4 +1,4 @@
-//! The arrows from where an event came that started an instance, to where the instance's life begins.
+//! The arrows from the origin of an event that started an instance to the beginning of the instance's life.
 ghost use Rattle.std.specs.Prelude.{◌≡◌, ◌++◌, OnOk, IfOk, None, map, option_map};
 ghost use Rattle.std.specs.List.{flat_map};
 ghost use Rattle.up_chart.specs.Arrows.{arrow, arrows_by, arrows_to, from_client, from_life, from_outside, is_known, is_life, is_only, last_life, place_of, words_of};
@@ -11,7 +11,7 @@ use crate::times::Times;
 use std::alloc::{AllocError, Global};
 use up_text::Text;
 
-// Whether no other event of the name came since the last life that events started.
+// Whether no other event with the name occurred since the last life that events started.
 fn is_only(events_came: Option<u64>, before: Option<u64>) -> bool
     ensures { result ≡ is_only events_came before }
 {
@@ -22,7 +22,7 @@ fn is_only(events_came: Option<u64>, before: Option<u64>) -> bool
     }
 }
 
-// Whether an event is known to have started a life that began then.
+// Whether an event is known to have started a life that began at this time.
 fn is_known(alone: bool, row: &Row, life_began: u64, came: Came) -> bool
     ensures { result ≡ is_known alone row.now life_began came }
 {
@@ -70,14 +70,14 @@ fn is_life(event: &str) -> bool
     state_told(event).is_some()
 }
 
-// The names of events, which a space separates.
+// Splits the names of events, which are separated by spaces.
 fn words_of<'a>(alloc: Global, events: &'a str) -> Result<Vec<&'a str>, AllocError>
     ensures { IfOk result (λ words. map (λ word. word.now) words.items ≡ words_of events.now) }
 {
     events.split(' ').collect(alloc)
 }
 
-// The last of these events that is of an instance's life.
+// The last of these events that belongs to an instance's life.
 fn last_life<'a>(events: &[&'a str]) -> Option<&'a str>
     ensures { option_map (λ event. event.now) result ≡ last_life None (map (λ event. event.now) events.now) }
 {
@@ -90,7 +90,7 @@ fn last_life<'a>(events: &[&'a str]) -> Option<&'a str>
     last
 }
 
-// An event of an instance's life comes from the instance's row.
+// An event of an instance's life comes from the row of that instance.
 fn push_from_life(
     arrows: &mut Vec<Arrow>,
     rows: &Rows,
@@ -152,7 +152,7 @@ fn push_all_from_outside(
     Ok(())
 }
 
-// The arrows to a life that these events started.
+// Appends the arrows to a life that these events started.
 fn push_arrows_to(
     arrows: &mut Vec<Arrow>,
     rows: &Rows,
@@ -181,7 +181,7 @@ fn push_arrows_to(
     push_all_from_outside(arrows, times, alone, row, life_began, events)
 }
 
-// A client starts a life at once, from outside.
+// A client starts a life immediately, from outside.
 fn push_from_client(
     arrows: &mut Vec<Arrow>,
     place: u64,
@@ -201,7 +201,7 @@ fn push_from_client(
     Ok(())
 }
 
-/// The arrows to an instance of which this is known, if a sign tells who started it.
+/// Appends the arrows to an instance, if a sign reports who started it.
 pub(crate) fn push_arrows(
     arrows: &mut Vec<Arrow>,
     rows: &Rows,

@@ -1,4 +1,4 @@
-//! How long each start of a run took, the longest first.
+//! The duration of each start of a run, the longest first.
 ghost use Rattle.std.specs.Prelude.{◌≡◌, ◌++◌, OnOk, IfOk, length, replicate};
 ghost use Rattle.std.specs.Fmt.{decimal};
 ghost use Rattle.std.specs.List.{flat_map};
@@ -15,7 +15,7 @@ fn sort_starts(starts: &mut Vec<Start>) -> Result<(), AllocError>
     starts.sort_by(|start, other| other.took.cmp(&start.took))
 }
 
-// How many digits the first of these numbers has.
+// The number of digits of the first number, which is the longest.
 fn number_width(alloc: Global, starts: &[Start]) -> Result<usize, AllocError>
     ensures { IfOk result (λ width. width ≡ number_width starts.now) }
 {
@@ -58,7 +58,7 @@ fn push_lines(text: &mut Vec<u8>, width: usize, starts: &[Start]) -> Result<(), 
     Ok(())
 }
 
-/// How long each start of a run took, a line for each: the longest first, and those that took as long in order of time.
+/// The duration of each start of a run in milliseconds, a line for each: the longest first, and equal ones in order of time.
 #[tactic(auto, unfolding(crate::specs::Blame::blame_of))]
 pub fn blame(alloc: Global, chart: Chart) -> Result<Vec<u8>, AllocError>
     ensures { IfOk result (λ text. text.items ≡ blame_of chart.starts) }

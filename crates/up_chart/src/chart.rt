@@ -16,7 +16,7 @@ use up_text::{Items, Text};
 /// The picture of a run.
 #[derive(Drop)]
 pub struct Chart {
-    /// How long the run took, in milliseconds.
+    /// The duration of the run, in milliseconds.
     pub end: u64,
     /// The names of its rows, in order.
     pub labels: Items<Label>,
@@ -47,7 +47,7 @@ fn push_labels(labels: &mut Vec<Label>, rows: &Rows) -> Result<(), AllocError>
     Ok(())
 }
 
-// The states that last until the end.
+// Appends the states that last until the end.
 fn push_last(spans: &mut Vec<Span>, end: u64, rows: &Rows) -> Result<(), AllocError>
     ensures { OnOk result (spans.new.items ≡ spans.old.items ++ flat_map (last_span end) rows.now) }
 {
@@ -70,7 +70,7 @@ fn all_seen(alloc: Global, moments: &[Moment]) -> Result<Seen, AllocError>
     Ok(seen)
 }
 
-/// The picture of a run that took so long and in which this was seen.
+/// The picture of a run of this duration in milliseconds, with these moments.
 #[tactic(auto, unfolding(crate::specs::Charts::chart_of))]
 pub fn chart_of(alloc: Global, end: u64, moments: &[Moment]) -> Result<Chart, AllocError>
     ensures { IfOk result (λ chart. chart ≡ chart_of end moments.now) }

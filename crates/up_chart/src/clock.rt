@@ -4,7 +4,7 @@ ghost use Rattle.up_chart.specs.Moments.{clock_after, no_clock, time_of};
 
 use up_model::Input;
 
-/// What the clock has read so far: the first reading, and the greatest.
+/// The readings of the clock so far: the first, and the greatest.
 #[derive(Clone, Copy)]
 pub struct Clock {
     first: Option<u64>,
@@ -12,7 +12,6 @@ pub struct Clock {
 }
 
 impl Clock {
-    /// A clock that has read nothing yet.
     pub fn new() -> Self
         ensures { result ≡ no_clock }
     {
@@ -22,7 +21,6 @@ impl Clock {
         }
     }
 
-    /// The clock after an input.
     pub fn after(self, given: &Input) -> Self
         ensures { result ≡ clock_after self given.now }
     {

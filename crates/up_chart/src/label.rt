@@ -10,7 +10,7 @@ pub struct Label {
     pub name: Text,
 }
 
-/// A state in which an instance was, from when to when.
+/// A state of an instance, with its beginning and end in milliseconds.
 #[derive(Clone, Copy)]
 pub struct Span {
     pub place: u64,
@@ -22,17 +22,17 @@ pub struct Span {
 /// An event that started an instance.
 #[derive(Clone, Copy)]
 pub struct Arrow {
-    /// The row of the instance of whose life it is; an event from outside has none.
+    /// The row of the instance to whose life it belongs; `None` for an event from outside.
     pub from: Option<u64>,
-    /// When it came.
+    /// The time at which it occurred.
     pub came: u64,
     /// The row of the instance that it started.
     pub place: u64,
-    /// When that one's life began.
+    /// The time at which the life of that instance began.
     pub life_began: u64,
 }
 
-/// What happened to an instance.
+/// A sign of an instance, at a time.
 #[derive(Drop)]
 pub struct Mark {
     pub place: u64,
@@ -40,7 +40,7 @@ pub struct Mark {
     pub sign: Sign,
 }
 
-/// A start that came to its end: when it began, and how long it took.
+/// A completed start: its beginning and its duration in milliseconds.
 #[derive(Drop)]
 pub struct Start {
     pub name: Text,

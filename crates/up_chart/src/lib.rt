@@ -1,4 +1,4 @@
-//! A run as a picture, and how long each start in it took.
+//! A run as a picture, and the duration of each start in it.
 #![tactic(auto)]
 
 mod arrow;

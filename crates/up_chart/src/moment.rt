@@ -1,4 +1,4 @@
-//! What is seen of instances in the steps of a run, and when.
+//! What the steps of a run show about instances, and when.
 ghost use Rattle.std.specs.Prelude.{◌≡◌, ◌++◌, ◌∷◌, [], OnOk, IfOk, codes, option_map, string_bytes};
 ghost use Rattle.std.specs.List.{flat_map};
 ghost use Rattle.up_model.specs.Judgement.{is_success};
@@ -10,30 +10,30 @@ use std::alloc::{AllocError, Global};
 use up_model::{Command, Event, How, Input, Order, Output, Process, State, Step, Who};
 use up_text::{Env, Text};
 
-/// What is seen of an instance.
+/// A sign of an instance in a step of a run.
 #[derive(Drop)]
 pub enum Sign {
     /// It enters a state.
     Enters(State),
-    /// Events with these names started it. The last of them that is of an instance's life is of this one.
+    /// Events with these names started it. `source` is the instance of the last of them that belongs to an instance's life.
     StartedBy { events: Text, source: Option<Text> },
-    /// A client started it, and no event.
+    /// A client started it, not an event.
     ByClient,
     /// Its main process couldn't be started, or was ended by a signal or with a status other than 0.
     Fails,
     /// One of its processes is sent a signal.
     Signal(u8),
-    /// This isn't an instance, but an event that comes.
+    /// This isn't about an instance: an event occurs.
     Comes,
 }
 
-/// What is seen of an instance, and when.
+/// A sign of an instance, and its time.
 #[derive(Drop)]
 pub struct Moment {
     /// In milliseconds since the first reading of the clock.
     pub time: u64,
-    /// The instance as it is printed: its job's name, and its own in parentheses if it has one. Or the name of an event that comes, and
-    /// after a space the instance of whose life it is.
+    /// The instance as it is printed: its job's name, and its own in parentheses if it has one. Or the name of an event that occurs, and
+    /// after a space the instance to whose life it belongs.
     pub name: Text,
     pub sign: Sign,
 }
@@ -78,7 +78,7 @@ fn push_moment(
     }
 }
 
-/// An event of an instance's life, named with the instance.
+/// The name of an event of an instance's life, with the instance after a space.
 pub(crate) fn life_event(alloc: Global, name: &str, who: &str) -> Result<Text, AllocError>
     ensures { IfOk result (λ event. event ≡ life_event name.now who.now) }
 {
@@ -100,7 +100,7 @@ fn push_comes(moments: &mut Vec<Moment>, time: u64, event: &str) -> Result<(), A
     Ok(())
 }
 
-// The event that a client emits.
+// Appends the event, if the client emits one.
 fn push_asked(
     moments: &mut Vec<Moment>,
     time: u64,
@@ -136,7 +136,7 @@ fn push_sign(
     }
 }
 
-// What the end of a process shows.
+// The sign of the end of a process, if there is one.
 fn end_sign(process: Process, how: How) -> Option<Sign>
     ensures { result ≡ end_sign process how }
 {
@@ -150,7 +150,7 @@ fn end_sign(process: Process, how: How) -> Option<Sign>
     }
 }
 
-// What it shows that a process couldn't be started.
+// The sign of a process that couldn't be started, if there is one.
 fn refusal_sign(process: Process) -> Option<Sign>
     ensures { result ≡ refusal_sign process }
 {
@@ -177,7 +177,7 @@ fn push_heard(moments: &mut Vec<Moment>, time: u64, given: &Input) -> Result<(),
     }
 }
 
-// The state whose process it is.
+// The state in which the process is started.
 fn state_by(process: Process) -> State
     ensures { result ≡ state_by process }
 {
@@ -190,7 +190,7 @@ fn state_by(process: Process) -> State
     }
 }
 
-// The instance that JOB and INSTANCE name.
+// The instance named by JOB and INSTANCE, `None` if either is missing.
 fn instance_of(alloc: Global, vars: &Env) -> Result<Option<Text>, AllocError>
     ensures { IfOk result (λ who. who ≡ instance_of (value_of (codes "JOB") vars.now) (value_of (codes "INSTANCE") vars.now)) }
 {
@@ -204,7 +204,7 @@ fn instance_of(alloc: Global, vars: &Env) -> Result<Option<Text>, AllocError>
     Ok(Some(name))
 }
 
-// The instance that an environment names as that of the last event by which its own was started that is of an instance's life.
+// The instance of the last event of an instance's life that started this one, by the environment of its process.
 fn source_of(alloc: Global, process: Process, env: &Env) -> Result<Option<Text>, AllocError>
     ensures { IfOk result (λ source. source ≡ source_of process env.now) }
 {
@@ -214,7 +214,7 @@ fn source_of(alloc: Global, process: Process, env: &Env) -> Result<Option<Text>,
     }
 }
 
-// The events that started an instance, or that a client did.
+// Appends the events that started an instance, or without any that a client did.
 fn push_started(
     moments: &mut Vec<Moment>,
     time: u64,
@@ -258,7 +258,7 @@ fn push_order(moments: &mut Vec<Moment>, time: u64, order: &Order) -> Result<(),
     )
 }
 
-/// The state that an event of an instance's life tells.
+/// The state that an event of an instance's life reports.
 pub(crate) fn state_told(name: &str) -> Option<State>
     ensures { result ≡ state_told name.now }
 {
@@ -271,7 +271,7 @@ pub(crate) fn state_told(name: &str) -> Option<State>
     }
 }
 
-// A state, and the event that tells it.
+// Appends a state, and the event that reports it.
 fn push_told(
     moments: &mut Vec<Moment>,
     time: u64,
@@ -349,7 +349,7 @@ fn push_outputs(moments: &mut Vec<Moment>, time: u64, outputs: &[Output]) -> Res
     Ok(())
 }
 
-/// Appends what an input and its answer show at this time. An input that wasn't expected shows nothing.
+/// Appends the moments of an input and its answer at this time. An input that wasn't expected adds none.
 pub fn push_step(
     moments: &mut Vec<Moment>,
     time: u64,

@@ -1,4 +1,4 @@
-//! Texts that grow.
+//! Appending to texts.
 ghost use Rattle.std.specs.Prelude.{◌≡◌, ◌++◌, OnOk};
 ghost use Rattle.std.specs.Fmt.{decimal};
 ghost use Rattle.std.specs.List.{flat_map};
@@ -6,14 +6,12 @@ ghost use Rattle.up_chart.specs.Svg.{attribute, escaped};
 
 use std::alloc::AllocError;
 
-/// Appends a text.
 pub(crate) fn push(text: &mut Vec<u8>, more: &str) -> Result<(), AllocError>
     ensures { OnOk result (text.new.items ≡ text.old.items ++ more.now) }
 {
     text.extend_from_slice(more.as_bytes())
 }
 
-/// Appends a number in decimal.
 pub(crate) fn push_decimal(text: &mut Vec<u8>, number: u64) -> Result<(), AllocError>
     ensures { OnOk result (text.new.items ≡ text.old.items ++ decimal number) }
 {
@@ -37,7 +35,7 @@ fn push_escaped(text: &mut Vec<u8>, byte: u8) -> Result<(), AllocError>
     }
 }
 
-/// Appends a text as XML has it between two tags.
+/// Appends a text, escaped for XML between two tags. Control bytes become `?`.
 pub(crate) fn push_all_escaped(text: &mut Vec<u8>, bytes: &[u8]) -> Result<(), AllocError>
     ensures { OnOk result (text.new.items ≡ text.old.items ++ flat_map escaped bytes.now) }
 {
@@ -47,7 +45,7 @@ pub(crate) fn push_all_escaped(text: &mut Vec<u8>, bytes: &[u8]) -> Result<(), A
     Ok(())
 }
 
-/// Appends an attribute that is a number.
+/// Appends ` NAME="VALUE"`.
 #[tactic(auto, unfolding(crate::specs::Svg::attribute))]
 pub(crate) fn push_attribute(text: &mut Vec<u8>, name: &str, value: u64) -> Result<(), AllocError>
     ensures { OnOk result (text.new.items ≡ text.old.items ++ attribute name.now value) }

@@ -1,4 +1,4 @@
-//! What is known of an instance, and what a moment makes of it.
+//! The state of an instance during a run, and its changes.
 ghost use Rattle.std.specs.Prelude.{◌≡◌};
 ghost use Rattle.up_model.specs.Predicates.{is_waiting};
 ghost use Rattle.up_chart.specs.Rows.{start_began_after, life_began_after, with_events, came_again, is_up, new_row, next_row};
@@ -6,35 +6,35 @@ ghost use Rattle.up_chart.specs.Rows.{start_began_after, life_began_after, with_
 use crate::moment::Sign;
 use up_model::State;
 
-/// What is known of an instance.
+/// The state of an instance during a run; times are in milliseconds.
 #[derive(Clone, Copy)]
 pub struct Row {
-    /// Which row of the picture it has, from 0.
+    /// Its row in the picture, from 0.
     pub place: u64,
     /// The state that it entered last.
     pub state: State,
-    /// When it did.
+    /// The time at which it entered it.
     pub since: u64,
-    /// Whether it was told which events started it.
+    /// Whether a sign of it has reported the events that started it.
     pub told: bool,
-    /// Whether it was told that a client started it.
+    /// Whether a sign of it has reported that a client started it.
     pub asked: bool,
-    /// When it began to start, while it does.
+    /// The time at which it began to start, while it is starting.
     pub start_began: Option<u64>,
-    /// When its life began.
+    /// The time at which its life began.
     pub life_began: Option<u64>,
-    /// When the last life began that events started.
+    /// The time at which the last life that events started began.
     pub events_came: Option<u64>,
 }
 
-/// When an event came last, and when it came before that.
+/// The last two times at which an event occurred.
 #[derive(Clone, Copy)]
 pub struct Came {
     pub last: u64,
     pub before: Option<u64>,
 }
 
-/// An event comes once more.
+/// The times after one more occurrence of an event.
 pub(crate) fn came_again(time: u64, came: Option<Came>) -> Came
     ensures { result ≡ came_again time came }
 {
@@ -50,7 +50,7 @@ pub(crate) fn came_again(time: u64, came: Option<Came>) -> Came
     }
 }
 
-/// An instance of which nothing was seen yet.
+/// An instance without any sign yet.
 pub(crate) fn new_row(place: u64, time: u64) -> Row
     ensures { result ≡ new_row place time }
 {
@@ -66,7 +66,7 @@ pub(crate) fn new_row(place: u64, time: u64) -> Row
     }
 }
 
-/// Whether main lives there, and nobody has asked for its end.
+/// Whether the main process runs in this state, and its end hasn't been requested.
 pub(crate) fn is_up(state: State) -> bool
     ensures { result ≡ is_up state }
 {
@@ -108,7 +108,7 @@ fn life_began_after(state: State, time: u64, life_began: Option<u64>) -> Option<
     }
 }
 
-// An instance that is told which events started it.
+// Records that the events that started the instance have been reported.
 fn with_events(row: Row) -> Row
     ensures { result ≡ with_events row row.life_began }
 {
@@ -124,7 +124,7 @@ fn with_events(row: Row) -> Row
     }
 }
 
-/// What is known of an instance after a sign of it.
+/// The instance after one of its signs.
 pub(crate) fn next_row(time: u64, row: Row, sign: &Sign) -> Row
     ensures { result ≡ next_row time row sign.now }
 {

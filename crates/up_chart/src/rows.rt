@@ -1,4 +1,4 @@
-//! What is known of each instance, found by its name.
+//! The state of each instance, by its name.
 ghost use Rattle.std.specs.Prelude.{◌≡◌, ◌<◌, [], length, OnOk, Some, slice_get, string_bytes};
 ghost use Rattle.up_chart.specs.Rows.{all_named, entry_of, set_entry};
 
@@ -7,7 +7,7 @@ use indexmap::IndexMap;
 use std::alloc::{AllocError, Global};
 use std::marker::Model;
 
-/// Instances by their names, in the order in which they were seen first. Contracts see them as the list of their names and rows.
+/// Instances by their names, in the order in which they were first seen. Contracts see them as the list of their names and rows.
 #[derive(Drop)]
 pub struct Rows {
     rows: IndexMap<String, Row>,
@@ -36,7 +36,6 @@ fn insert(rows: &mut IndexMap<String, Row>, name: String, row: Row) -> Result<()
 }
 
 impl Rows {
-    /// No instance.
     pub(crate) fn new(alloc: Global) -> Self
         ensures { result ≡ [] }
     {
@@ -70,7 +69,7 @@ impl Rows {
         }
     }
 
-    /// One that is there keeps its place, and a new one goes last.
+    /// An existing one keeps its position, and a new one goes last.
     pub(crate) fn set(&mut self, alloc: Global, name: &str, row: Row) -> Result<(), AllocError>
         ensures { OnOk result (self.new ≡ set_entry name.now row self.old) }
     {

@@ -1,4 +1,4 @@
-//! What the moments of a run make of its instances, one after another.
+//! Collects the picture of a run from its moments, one after another.
 ghost use Rattle.std.specs.Prelude.{◌≡◌, ◌++◌, ◌∷◌, [], OnOk, IfOk};
 ghost use Rattle.up_chart.specs.Arrows.{arrows_by, arrows_in};
 ghost use Rattle.up_chart.specs.Charts.{marks_by, marks_in, span_of, spans_by, spans_in, started, starts_by, starts_in};
@@ -15,11 +15,11 @@ use std::alloc::{AllocError, Global};
 use up_model::State;
 use up_text::Text;
 
-/// What was seen so far.
+/// The picture of a run so far.
 #[derive(Drop)]
 pub struct Seen {
     pub rows: Rows,
-    /// When each event came.
+    /// The times at which each event occurred.
     pub times: Times,
     pub spans: Vec<Span>,
     pub arrows: Vec<Arrow>,
@@ -27,7 +27,7 @@ pub struct Seen {
     pub starts: Vec<Start>,
 }
 
-/// The state in which an instance was until this time, if it was in one for a while.
+/// Appends the state of an instance up to this time, if it lasted a while. Waiting isn't shown.
 pub(crate) fn push_span(spans: &mut Vec<Span>, end: u64, row: &Row) -> Result<(), AllocError>
     ensures { OnOk result (spans.new.items ≡ spans.old.items ++ span_of end row.now) }
 {
@@ -78,7 +78,7 @@ fn copy_source(source: &Option<Text>) -> Result<Option<Text>, AllocError>
     }
 }
 
-// The same sign in memory of its own.
+// A `StartedBy` with copies of these texts.
 fn started_by(events: &Text, source: &Option<Text>) -> Result<Sign, AllocError>
     ensures { IfOk result (λ sign. sign ≡ StartedBy events.now source.now) }
 {
@@ -117,7 +117,7 @@ fn push_marks(marks: &mut Vec<Mark>, time: u64, row: &Row, sign: &Sign) -> Resul
     }
 }
 
-// A start that is over.
+// Appends a start that is completed, if one began.
 fn push_start(
     starts: &mut Vec<Start>,
     time: u64,
@@ -158,7 +158,7 @@ fn row_for(rows: &Rows, moment: &Moment) -> Row
     }
 }
 
-// An event comes.
+// Records the time, if an event occurs.
 #[tactic(auto, unfolding(crate::specs::Rows::times_after))]
 fn set_time(alloc: Global, times: &mut Times, moment: &Moment) -> Result<(), AllocError>
     ensures { OnOk result (times.new ≡ times_after times.old moment.now) }
@@ -180,7 +180,7 @@ fn set_time(alloc: Global, times: &mut Times, moment: &Moment) -> Result<(), All
     }
 }
 
-// What is known of an instance becomes what it is after a moment.
+// Updates an instance after a moment.
 #[tactic(auto, unfolding(crate::specs::Rows::rows_after))]
 fn set_row(alloc: Global, rows: &mut Rows, row: Row, moment: &Moment) -> Result<(), AllocError>
     requires { row ≡ row_for rows.old moment.now }
@@ -197,7 +197,6 @@ fn set_row(alloc: Global, rows: &mut Rows, row: Row, moment: &Moment) -> Result<
 }
 
 impl Seen {
-    /// Nothing.
     pub(crate) fn new(alloc: Global) -> Self
         ensures rows { result.rows ≡ [] }
         ensures times { result.times ≡ [] }
@@ -216,7 +215,7 @@ impl Seen {
         }
     }
 
-    // What a moment shows of an instance of which so much is known.
+    // Adds to the picture what a moment shows, given the instance before it.
     fn draw(&mut self, row: &Row, moment: &Moment) -> Result<(), AllocError>
         ensures rows { OnOk result (self.new.rows ≡ self.old.rows) }
         ensures times { OnOk result (self.new.times ≡ self.old.times) }
@@ -235,7 +234,6 @@ impl Seen {
         push_starts(&mut self.starts, row, moment)
     }
 
-    // A moment more.
     fn see(&mut self, alloc: Global, moment: &Moment) -> Result<(), AllocError>
         ensures rows { OnOk result (self.new.rows ≡ rows_after self.old.rows moment.now) }
         ensures times { OnOk result (self.new.times ≡ times_after self.old.times moment.now) }
@@ -254,7 +252,6 @@ impl Seen {
         set_row(alloc, &mut self.rows, row, moment)
     }
 
-    /// All moments of a run.
     pub(crate) fn see_all(&mut self, alloc: Global, moments: &[Moment]) -> Result<(), AllocError>
         ensures rows { OnOk result (self.new.rows ≡ all_rows self.old.rows moments.now) }
         ensures spans { OnOk result (self.new.spans.items

@@ -55,7 +55,7 @@ static STEPS: [u64; 36] = [
 /// The times at the bottom, counted in steps.
 static TICKS: [u64; 11] = [0, 1, 2, 3, 4, 5, 6, 7, 8, 9, 10];
 
-/// How the parts of a picture look, and what each colour says.
+/// The style of the parts of a picture, and the legend of its colours.
 const LOOKS: &'static str = "<style>\
     text{fill:#222}\
     .by{font-size:9px}\
@@ -105,17 +105,16 @@ const LOOKS: &'static str = "<style>\
     <path class=\"arrow\" d=\"M832 19H854\"/>\
     <text x=\"860\" y=\"23\">started by</text>\n";
 
-/// How a picture begins, before its size and after it.
+/// The start of a picture, before its size and after it.
 const BEGINNING: &'static str = "<svg xmlns=\"http://www.w3.org/2000/svg\"";
 
 const LETTERS: &'static str = " font-family=\"sans-serif\" font-size=\"11\">\n";
 
-/// What stands in a bar before what it says and after it.
+/// The text in a bar before its title and after it.
 const BAR_BEGINS: &'static str = " height=\"14\"><title>";
 
 const BAR_ENDS: &'static str = " ms</title></rect>\n";
 
-// The length of the longest name.
 fn longest(labels: &[Label]) -> u64
     ensures { result ≡ longest labels.now }
 {
@@ -126,7 +125,7 @@ fn longest(labels: &[Label]) -> u64
     most
 }
 
-// How wide the names are drawn.
+// The width of the column of names, in pixels.
 fn column(labels: &[Label]) -> u64
     ensures value { result ≡ column labels.now }
     ensures narrow { result ≤ 600 }
@@ -134,7 +133,7 @@ fn column(labels: &[Label]) -> u64
     longest(labels).min(80) * 7 + 24
 }
 
-// How large the picture is.
+// Appends the opening tag with the size.
 #[tactic(auto, unfolding(crate::specs::Svg::opening))]
 fn push_opening(text: &mut Vec<u8>, width: u64, height: u64) -> Result<(), AllocError>
     ensures { OnOk result (text.new.items ≡ text.old.items ++ opening width height) }
@@ -145,7 +144,7 @@ fn push_opening(text: &mut Vec<u8>, width: u64, height: u64) -> Result<(), Alloc
     push(text, LETTERS)
 }
 
-// What its colours say, and where its rows begin.
+// Appends the styles and the legend, and opens the group of the rows.
 #[tactic(auto, unfolding(crate::specs::Svg::legend))]
 fn push_legend(text: &mut Vec<u8>, left: u64) -> Result<(), AllocError>
     ensures { OnOk result (text.new.items ≡ text.old.items ++ legend left) }
@@ -156,7 +155,7 @@ fn push_legend(text: &mut Vec<u8>, left: u64) -> Result<(), AllocError>
     push(text, ",44)\">\n")
 }
 
-// How large the picture is, and what its colours say.
+// Appends the opening tag, the styles and the legend.
 #[tactic(auto, unfolding(crate::specs::Svg::head))]
 fn push_head(text: &mut Vec<u8>, labels: &[Label]) -> Result<(), AllocError>
     ensures { OnOk result (text.new.items ≡ text.old.items ++ head labels.now) }
@@ -166,7 +165,7 @@ fn push_head(text: &mut Vec<u8>, labels: &[Label]) -> Result<(), AllocError>
     push_legend(text, left)
 }
 
-// Where a thing stands.
+// Appends a position as the attributes `x` and `y`.
 #[tactic(auto, unfolding(crate::specs::Svg::corner))]
 fn push_corner(text: &mut Vec<u8>, x: u64, y: u64) -> Result<(), AllocError>
     ensures { OnOk result (text.new.items ≡ text.old.items ++ corner x y) }
@@ -198,7 +197,6 @@ fn push_tick_time(text: &mut Vec<u8>, x: u64, y: u64, time: u64) -> Result<(), A
     push(text, " ms</text>\n")
 }
 
-// A tick and its time.
 #[tactic(auto, unfolding(crate::specs::Svg::tick_text))]
 fn push_tick(text: &mut Vec<u8>, end: u64, bottom: u64, time: u64) -> Result<(), AllocError>
     requires { bottom < 2 ^ 50 }
@@ -241,7 +239,7 @@ fn push_ticks(
     Ok(())
 }
 
-// The times at the bottom.
+// Appends the times at the bottom.
 #[tactic(auto, unfolding(crate::specs::Svg::axis))]
 fn push_axis(text: &mut Vec<u8>, end: u64, rows: u64) -> Result<(), AllocError>
     ensures { OnOk result (text.new.items ≡ text.old.items ++ axis end rows) }
@@ -251,7 +249,6 @@ fn push_axis(text: &mut Vec<u8>, end: u64, rows: u64) -> Result<(), AllocError>
     push_ticks(text, end, y_at(rows), step, &TICKS)
 }
 
-// The line above a row.
 #[tactic(auto, unfolding(crate::specs::Svg::row_line))]
 fn push_row_line(text: &mut Vec<u8>, y: u64) -> Result<(), AllocError>
     ensures { OnOk result (text.new.items ≡ text.old.items ++ row_line y) }
@@ -272,7 +269,7 @@ fn push_name(text: &mut Vec<u8>, y: u64, name: &[u8]) -> Result<(), AllocError>
     push(text, "</text>\n")
 }
 
-// The name of a row.
+// Appends the line above a row and its name.
 #[tactic(auto, unfolding(crate::specs::Svg::label_text))]
 fn push_label(text: &mut Vec<u8>, label: &Label) -> Result<(), AllocError>
     ensures { OnOk result (text.new.items ≡ text.old.items ++ label_text label.now) }
@@ -291,7 +288,7 @@ fn push_labels(text: &mut Vec<u8>, labels: &[Label]) -> Result<(), AllocError>
     Ok(())
 }
 
-// From when to when.
+// Appends `BEGIN to END`, in milliseconds.
 #[tactic(auto, unfolding(crate::specs::Svg::interval))]
 fn push_interval(text: &mut Vec<u8>, begin: u64, end: u64) -> Result<(), AllocError>
     ensures { OnOk result (text.new.items ≡ text.old.items ++ interval begin end) }
@@ -302,7 +299,6 @@ fn push_interval(text: &mut Vec<u8>, begin: u64, end: u64) -> Result<(), AllocEr
     push(text, BAR_ENDS)
 }
 
-// A bar.
 #[tactic(auto, unfolding(crate::specs::Svg::bar))]
 fn push_bar(text: &mut Vec<u8>, class: &str, x: u64, y: u64, width: u64) -> Result<(), AllocError>
     ensures { OnOk result (text.new.items ≡ text.old.items ++ bar class.now x y width) }
@@ -314,7 +310,7 @@ fn push_bar(text: &mut Vec<u8>, class: &str, x: u64, y: u64, width: u64) -> Resu
     push_attribute(text, "width", width)
 }
 
-// What a bar says to who points at it.
+// Appends the title of a bar, which is shown under the mouse pointer.
 #[tactic(auto, unfolding(crate::specs::Svg::bar_title))]
 fn push_bar_title(text: &mut Vec<u8>, class: &str, begin: u64, end: u64) -> Result<(), AllocError>
     ensures { OnOk result (text.new.items ≡ text.old.items ++ bar_title class.now begin end) }
@@ -325,7 +321,7 @@ fn push_bar_title(text: &mut Vec<u8>, class: &str, begin: u64, end: u64) -> Resu
     push_interval(text, begin, end)
 }
 
-// A state of an instance.
+// Appends the bar of a state. It is at least one pixel wide.
 #[tactic(auto, unfolding(crate::specs::Svg::span_text))]
 fn push_span(text: &mut Vec<u8>, end: u64, span: &Span) -> Result<(), AllocError>
     ensures { OnOk result (text.new.items ≡ text.old.items ++ span_text end span.now) }
@@ -354,7 +350,7 @@ fn push_signal(text: &mut Vec<u8>, signal: u8) -> Result<(), AllocError>
     }
 }
 
-// Where an arrow begins: in a row, or above the first.
+// Appends the start of an arrow: in a row, or above the first.
 fn push_tail(text: &mut Vec<u8>, from: Option<u64>) -> Result<(), AllocError>
     ensures { OnOk result (text.new.items ≡ text.old.items ++ tail_text from) }
 {
@@ -364,7 +360,7 @@ fn push_tail(text: &mut Vec<u8>, from: Option<u64>) -> Result<(), AllocError>
     }
 }
 
-// Where it ends.
+// The vertical position of the end of an arrow.
 fn tip_y(from: Option<u64>, place: u64) -> u64
     ensures { result ≡ tip_y from place }
 {
@@ -374,7 +370,7 @@ fn tip_y(from: Option<u64>, place: u64) -> u64
     }
 }
 
-// Straight to a life that begins where the event came, or on along its row to one that begins later.
+// Straight to a life that begins at the same position, or along the row to one that begins later.
 #[tactic(auto, unfolding(crate::specs::Svg::way_text))]
 fn push_way(
     text: &mut Vec<u8>,
@@ -413,7 +409,7 @@ fn push_arrow_path(
     push(text, "\"/>\n")
 }
 
-// From where and when an event came, to where and when the life begins that it brought.
+// An arrow from the row and time of an event to the row and time of the life that it started.
 fn push_arrow(text: &mut Vec<u8>, end: u64, arrow: &Arrow) -> Result<(), AllocError>
     ensures { OnOk result (text.new.items ≡ text.old.items ++ arrow_text end arrow.now) }
 {
@@ -435,7 +431,7 @@ fn push_arrows(text: &mut Vec<u8>, end: u64, arrows: &[Arrow]) -> Result<(), All
     Ok(())
 }
 
-// The events that started an instance, where its start begins.
+// Appends the events that started an instance, at the beginning of its start.
 #[tactic(auto, unfolding(crate::specs::Svg::started_text))]
 fn push_started(text: &mut Vec<u8>, x: u64, y: u64, events: &[u8]) -> Result<(), AllocError>
     requires { y < 2 ^ 50 }
@@ -449,7 +445,7 @@ fn push_started(text: &mut Vec<u8>, x: u64, y: u64, events: &[u8]) -> Result<(),
     push(text, "</text>\n")
 }
 
-// A place from which a path is drawn.
+// Appends the starting point of a path.
 fn push_place(text: &mut Vec<u8>, x: u64, y: u64) -> Result<(), AllocError>
     ensures { OnOk result (text.new.items ≡ text.old.items ++ place_text x y) }
 {
@@ -459,7 +455,7 @@ fn push_place(text: &mut Vec<u8>, x: u64, y: u64) -> Result<(), AllocError>
     push_decimal(text, y)
 }
 
-// The failure of a main process.
+// Appends the mark of a failed main process.
 #[tactic(auto, unfolding(crate::specs::Svg::crash_text))]
 fn push_crash(text: &mut Vec<u8>, x: u64, y: u64) -> Result<(), AllocError>
     requires { y < 2 ^ 50 }
@@ -470,7 +466,7 @@ fn push_crash(text: &mut Vec<u8>, x: u64, y: u64) -> Result<(), AllocError>
     push(text, "l5 11h-10z\"><title>main failed</title></path>\n")
 }
 
-// A signal, whose name is said to who points at it.
+// Appends the mark of a signal, whose name is shown under the mouse pointer.
 #[tactic(auto, unfolding(crate::specs::Svg::signal_mark))]
 fn push_signal_mark(text: &mut Vec<u8>, x: u64, y: u64, signal: u8) -> Result<(), AllocError>
     requires { y < 2 ^ 50 }
@@ -509,8 +505,8 @@ fn push_marks(text: &mut Vec<u8>, end: u64, marks: &[Mark]) -> Result<(), AllocE
     Ok(())
 }
 
-/// A picture in SVG: a row for each instance, with a bar for each of its states, a mark for each failure and each signal, and which events
-/// started it; at the bottom the time in milliseconds.
+/// A picture in SVG: a row for each instance, with a bar for each of its states, a mark for each failure and each signal, and the events
+/// that started it; at the bottom the time in milliseconds.
 #[tactic(auto, unfolding(crate::specs::Svg::svg_of))]
 pub fn svg(alloc: Global, chart: &Chart) -> Result<Vec<u8>, AllocError>
     ensures { IfOk result (λ text. text.items ≡ svg_of chart.now) }

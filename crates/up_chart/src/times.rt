@@ -1,4 +1,4 @@
-//! When each event came, found by its name.
+//! The times of each event, by its name.
 ghost use Rattle.std.specs.Prelude.{◌≡◌, [], OnOk, string_bytes};
 ghost use Rattle.up_chart.specs.Rows.{all_named, entry_of, set_entry};
 
@@ -7,7 +7,7 @@ use indexmap::IndexMap;
 use std::alloc::{AllocError, Global};
 use std::marker::Model;
 
-/// When each event came. Contracts see it as the list of the names and times.
+/// The times of each event. Contracts see it as the list of the names and times.
 #[derive(Drop)]
 pub struct Times {
     times: IndexMap<String, Came>,
@@ -40,7 +40,6 @@ fn insert_time(
 }
 
 impl Times {
-    /// No event.
     pub(crate) fn new(alloc: Global) -> Self
         ensures { result ≡ [] }
     {

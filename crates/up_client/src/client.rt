@@ -1,4 +1,4 @@
-//! What the client does: its words, its socket, what it prints and its status.
+//! The client: its command line, its socket, its output and its exit status.
 ghost use Rattle.std.specs.Prelude.{◌≡◌, ◌⊎◌, [], true, false, None, IfOk, IfErr};
 ghost use Rattle.clap.specs.Words.{kind_of, rule_of, subcommand_rows_of};
 ghost use Rattle.up_model.specs.declared.exit_status.ExitStatus.TheVariants as status;
@@ -23,7 +23,7 @@ use up_wire::{DEFAULT_SOCKET, WireFault, command_line, request_of, write_request
 
 const PROFILE: &str = "initctl (upstart profile 1)";
 
-/// How the tip to pass an option as a value begins.
+/// The start of the tip to pass an option as a value.
 const VALUE_TIP: &str = "\n\n  tip: to pass '";
 
 fn socket<'a>(alloc: Global) -> Arg<'a>
@@ -39,7 +39,7 @@ fn socket<'a>(alloc: Global) -> Arg<'a>
         .action(ArgAction::Set)
 }
 
-/// The command line of the program.
+/// The command line of `initctl` with the option `--socket`.
 pub fn with_socket<'a>(alloc: Global) -> Result<Command<'a>, AllocError>
     ensures { IfOk result (IsUsage client_usage) }
 {
@@ -47,7 +47,7 @@ pub fn with_socket<'a>(alloc: Global) -> Result<Command<'a>, AllocError>
     Ok(command)
 }
 
-// What is said in place of the tip to pass an option as a value.
+// The text in place of the tip to pass an option as a value.
 fn tip_for(fault: &str) -> &'static str {
     if fault.contains("'--socket'") {
         "  tip: '--socket PATH' stands before the command\n\n"
@@ -56,7 +56,7 @@ fn tip_for(fault: &str) -> &'static str {
     }
 }
 
-// Prints the fault and the usage of a text, whose tip to pass an option as a value is left out: no job and no variable begins so.
+// Prints a fault and its usage without the tip to pass an option as a value: no job and no variable begins so.
 fn print_text<R: Eprint>(rt: &R, text: &str) -> io::Result<()> {
     let Some((fault, rest)) = text.split_once(VALUE_TIP) else {
         return eprint!(rt; "{text}");
@@ -66,7 +66,7 @@ fn print_text<R: Eprint>(rt: &R, text: &str) -> io::Result<()> {
     eprint!(rt; "{fault}\n\n{tip}{usage}")
 }
 
-// Prints why a command line is refused.
+// Prints why a command line is invalid.
 fn print_fault<R: Print + Eprint + AllocGlobal>(rt: &R, error: &Error) -> io::Result<()> {
     match format!(in rt.alloc(); "{error}") {
         Ok(text) => print_text(rt, text.as_str()),
@@ -74,7 +74,7 @@ fn print_fault<R: Print + Eprint + AllocGlobal>(rt: &R, error: &Error) -> io::Re
     }
 }
 
-// Prints why a command line is refused, or the help that it asks for.
+// Prints why a command line is invalid, or the help that it asks for.
 fn print_refusal<R: Print + Eprint + AllocGlobal>(rt: &R, error: &Error) -> ExitStatus
     ensures status { IsStatus result }
     ensures memory { kind_of error.now ≡ ErrorKind.OutOfMemory → result ≡ status.Memory }
@@ -141,7 +141,6 @@ fn ask<R: Net + Print + Eprint>(rt: &R, alloc: Global, socket: &str, frame: &[u8
     }
 }
 
-// Whether a word sets a variable.
 fn is_binding(alloc: Global, word: &str) -> bool {
     match word.split_once('=') {
         Some((key, value)) => {
@@ -154,7 +153,7 @@ fn is_binding(alloc: Global, word: &str) -> bool {
     }
 }
 
-// The word for which a request is refused: the first that sets no variable, or else the name.
+// The word that makes a request invalid: the first that isn't a valid `KEY=VALUE`, or else the name.
 fn bad_word<'a>(alloc: Global, matches: &ArgMatches<'a>) -> &'a str {
     let Some((_, given)) = matches.subcommand() else {
         return "";
@@ -167,7 +166,6 @@ fn bad_word<'a>(alloc: Global, matches: &ArgMatches<'a>) -> &'a str {
     given.get_str("NAME").unwrap_or("")
 }
 
-// Says which word makes words no request.
 fn refuse_word<R: Eprint>(rt: &R, word: &str) -> ExitStatus
     ensures { result ≡ status.Failed }
 {
@@ -202,7 +200,7 @@ fn print_profile<R: Print>(rt: &R) -> ExitStatus
     }
 }
 
-/// Does what the words ask for, the program's name first, and returns the status.
+/// Runs the command of these words, the program's name first, and returns the exit status.
 pub fn run<R: Net + Print + Eprint + Env + AllocGlobal>(rt: &R, words: &[String]) -> ExitStatus
     ensures { IsStatus result }
 {

@@ -1,4 +1,4 @@
-//! The client `initctl`: what its words ask for, and what it prints of the answer.
+//! The client `initctl`: it sends the request of its command line, and prints the answer.
 #![tactic(auto)]
 
 pub mod client;

@@ -1,4 +1,4 @@
-//! One question and its answer over a stream.
+//! One request and its answer over a stream.
 ghost use Rattle.std.specs.Prelude.{◌≡◌, ◌++◌, [], ◌∷◌, None, Some, drop, IfOk, MatchOption};
 ghost use Rattle.up_model.specs.Values.{Bytes};
 ghost use Rattle.up_client.specs.Asking.{BeginsWith, Hears};
@@ -9,12 +9,12 @@ use std::io::{ErrorKind, Read, Write};
 use up_model::Answer;
 use up_wire::{AnswerFeed, WireFault};
 
-/// How many times the client reads before it gives up.
+/// The greatest number of reads before the client gives up.
 pub const MAX_READS: u32 = 1_048_576;
 
 const READ_SIZE: usize = 65_536;
 
-/// Why there is no answer.
+/// The reason why there is no answer.
 #[derive(Clone, Copy, Debug, PartialEq, Eq)]
 pub enum TalkFault {
     /// The connection is lost.
@@ -30,7 +30,7 @@ fn fault_of(error: &io::Error) -> TalkFault {
     }
 }
 
-// The first of some answers.
+// The first answer, if there is one.
 fn first_of(mut answers: Vec<Answer>) -> Option<Answer>
     ensures { MatchOption result (answers.items ≡ []) (λ first. answers.items
         ≡ first ∷ drop 1 answers.items) }
@@ -41,7 +41,7 @@ fn first_of(mut answers: Vec<Answer>) -> Option<Answer>
     Some(answers.remove(0))
 }
 
-// The first answer that is whole after these bytes.
+// The first answer that is complete after these bytes.
 fn take(feed: &mut AnswerFeed, piece: &[u8]) -> Result<Option<Answer>, TalkFault>
     ensures { feed.old.fault ≡ None → IfOk result (λ found. (feed.new.fault ≡ None)
         × Hears (feed.old.rest ++ piece.now) feed.new.rest found) }
@@ -53,7 +53,7 @@ fn take(feed: &mut AnswerFeed, piece: &[u8]) -> Result<Option<Answer>, TalkFault
     }
 }
 
-// The first answer that is whole after one more read.
+// The first answer that is complete after one more read. An interrupted read returns `None`.
 fn read_once<S: Read>(
     stream: &mut S,
     buffer: &mut [u8],

@@ -1,4 +1,4 @@
-//! What changes from one list of jobs to another.
+//! The changes from one list of jobs to another.
 ghost use Rattle.std.specs.Prelude.{◌≡◌, ◌++◌, ◌∷◌, [], option_copied, IfOk, OnOk};
 ghost use Rattle.std.specs.List.{flat_map};
 ghost use Rattle.up_compare.specs.Compare.{Compares, change_from, change_if, change_of, differences, differing, job_named, lines_by, part_unless, removal_of};
@@ -10,7 +10,7 @@ use std::alloc::{AllocError, Global};
 use up_conf::JobDef;
 use up_text::{Items, Text};
 
-// The first job of this name.
+// The first job with this name.
 fn job_named<'a>(name: &str, jobs: &'a [JobDef]) -> Option<&'a JobDef>
     ensures { option_copied result ≡ job_named name.now jobs.now }
 {
@@ -22,7 +22,7 @@ fn job_named<'a>(name: &str, jobs: &'a [JobDef]) -> Option<&'a JobDef>
     None
 }
 
-// Appends a part, if two jobs don't have it in common.
+// Appends a part, if two jobs differ in it.
 fn push_part(
     parts: &mut Vec<Part>,
     part: Part,
@@ -39,7 +39,7 @@ fn push_part(
     Ok(())
 }
 
-// Appends those of these parts that two jobs don't have in common.
+// Appends those of these parts in which two jobs differ.
 fn push_parts(
     parts: &mut Vec<Part>,
     all: &[Part],
@@ -55,7 +55,7 @@ fn push_parts(
     Ok(())
 }
 
-// The parts by which two jobs differ.
+// The parts in which two jobs differ.
 fn differing(alloc: Global, job: &JobDef, other: &JobDef) -> Result<Items<Part>, AllocError>
     ensures { IfOk result (λ parts. parts ≡ differing same_part job.now other.now) }
 {
@@ -77,7 +77,7 @@ fn push_change(
     Ok(())
 }
 
-// Appends the difference of two jobs of a name, if there is one.
+// Appends nothing if no part differs.
 fn push_if(
     differences: &mut Vec<Difference>,
     name: &str,
@@ -91,7 +91,7 @@ fn push_if(
     }
 }
 
-// Appends the difference of a new job and the old one of its name.
+// Appends the difference of a new job from the old one with its name, if there is one.
 fn push_new(
     differences: &mut Vec<Difference>,
     old: &[JobDef],
@@ -124,7 +124,7 @@ fn push_all_new(
     Ok(())
 }
 
-// Appends that an old job is gone, if it is.
+// Appends a removal, if no new job has the old one's name.
 fn push_old(
     differences: &mut Vec<Difference>,
     new: &[JobDef],
@@ -154,7 +154,7 @@ fn push_all_old(
     Ok(())
 }
 
-// What changes from old jobs to new ones.
+// The changes from old jobs to new ones, sorted by name.
 fn differences(alloc: Global, old: &[JobDef], new: &[JobDef]) -> Result<Vec<Difference>, AllocError>
     ensures { IfOk result (λ made. made.items ≡ differences same_part old.now new.now) }
 {
@@ -175,8 +175,8 @@ fn lines(alloc: Global, old: &[JobDef], new: &[JobDef]) -> Result<Vec<u8>, Alloc
     Ok(text)
 }
 
-/// What changes from old jobs to new ones: a line for each job, in byte order of names, that says whether it is added or removed, or by
-/// which stanzas it differs.
+/// The changes from old jobs to new ones: a line for each job that changes, in byte order of names, with `added`, `removed`, or the stanzas
+/// in which it differs.
 pub fn compare(alloc: Global, old: &[JobDef], new: &[JobDef]) -> Result<Vec<u8>, AllocError>
     ensures { IfOk result (λ text. Compares old.now new.now text.items) }
 {

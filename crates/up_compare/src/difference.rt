@@ -1,4 +1,4 @@
-//! Differences, and the line that is printed of each.
+//! Differences between lists of jobs, and their printed lines.
 ghost use Rattle.std.specs.Prelude.{◌≡◌, ◌++◌, codes, OnOk};
 ghost use Rattle.std.specs.List.{flat_map};
 ghost use Rattle.up_conf.specs.Order.{in_order};
@@ -10,23 +10,22 @@ use crate::push::push;
 use std::alloc::AllocError;
 use up_text::{Items, Text};
 
-/// What happens to a job.
+/// A change of a job.
 #[derive(Drop)]
 pub enum Change {
     Added,
     Removed,
-    /// It differs by these parts.
+    /// It differs in these parts.
     Changed(Items<Part>),
 }
 
-/// What happens to the job of a name.
+/// A change of the job with this name.
 #[derive(Drop)]
 pub struct Difference {
     pub name: Text,
     pub change: Change,
 }
 
-/// Sorts differences in byte order of names.
 pub(crate) fn sort(differences: &mut Vec<Difference>) -> Result<(), AllocError>
     ensures { OnOk result (differences.new.items
         ≡ in_order (λ difference. difference.name) differences.old.items) }
@@ -34,7 +33,7 @@ pub(crate) fn sort(differences: &mut Vec<Difference>) -> Result<(), AllocError>
     differences.sort_by(|difference, other| difference.name.as_str().cmp(other.name.as_str()))
 }
 
-// Appends a name after another one.
+// Appends a name after another one, with a comma.
 fn push_next(text: &mut Vec<u8>, part: Part) -> Result<(), AllocError>
     ensures { OnOk result (text.new.items ≡ text.old.items ++ (codes ", " ++ name_of part)) }
 {
@@ -52,7 +51,7 @@ fn push_rest(text: &mut Vec<u8>, parts: &[Part]) -> Result<(), AllocError>
     Ok(())
 }
 
-// Appends the names of parts.
+// Appends the names of parts, with commas between them.
 fn push_listed(text: &mut Vec<u8>, parts: &[Part]) -> Result<(), AllocError>
     ensures { OnOk result (text.new.items ≡ text.old.items ++ listed parts.now) }
 {
@@ -78,7 +77,6 @@ fn push_change(text: &mut Vec<u8>, change: &Change) -> Result<(), AllocError>
     }
 }
 
-// Appends the line of a difference.
 #[tactic(auto, unfolding(crate::specs::Compare::line_of))]
 fn push_line(text: &mut Vec<u8>, difference: &Difference) -> Result<(), AllocError>
     ensures { OnOk result (text.new.items ≡ text.old.items ++ line_of difference.now) }
@@ -89,7 +87,6 @@ fn push_line(text: &mut Vec<u8>, difference: &Difference) -> Result<(), AllocErr
     push(text, "\n")
 }
 
-/// Appends the lines of differences.
 pub(crate) fn push_lines(text: &mut Vec<u8>, differences: &[Difference]) -> Result<(), AllocError>
     ensures { OnOk result (text.new.items ≡ text.old.items ++ flat_map line_of differences.now) }
 {

@@ -1,4 +1,5 @@
-//! What changes from one list of jobs to another: the jobs that are added, those that are removed, and the stanzas by which the others differ.
+//! The changes from one list of jobs to another: the jobs that are added, those that are removed, and the stanzas in which the others
+//! differ.
 #![tactic(auto)]
 
 mod changes;

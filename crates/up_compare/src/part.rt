@@ -1,4 +1,4 @@
-//! The parts of a job by which two jobs may differ.
+//! The parts of a job in which two jobs may differ.
 ghost use Rattle.std.specs.Prelude.{◌≡◌};
 ghost use Rattle.up_compare.specs.Parts.{name_of, parts, same_part};
 
@@ -6,7 +6,7 @@ use crate::same::{same_exits, same_flag, same_limit, same_process, same_settings
 use crate::tree::same_condition;
 use up_conf::JobDef;
 
-/// What a stanza says of a job: a field of `JobDef`, in its order there.
+/// A part of a job, set by a stanza: a field of `JobDef`, in its order there.
 #[derive(Clone, Copy, Debug, PartialEq, Eq)]
 pub enum Part {
     Task,
@@ -53,7 +53,7 @@ pub(crate) const PARTS: [Part; 19] = [
     Part::StopOn,
 ];
 
-/// The stanza that says it. That of the main process is `exec`, also if it is written as a script.
+/// The stanza that sets the part. That of the main process is `exec`, also if it is written as a script.
 pub(crate) fn name_of(part: Part) -> &'static str
     ensures { result.now ≡ name_of part }
 {
@@ -80,7 +80,7 @@ pub(crate) fn name_of(part: Part) -> &'static str
     }
 }
 
-/// Whether two jobs have this part in common.
+/// Whether two jobs are equal in this part.
 pub(crate) fn same_part(part: Part, job: &JobDef, other: &JobDef) -> bool
     ensures { result ≡ same_part part job.now other.now }
 {

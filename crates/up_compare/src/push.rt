@@ -1,9 +1,8 @@
-//! Texts that grow.
+//! Appending to texts.
 ghost use Rattle.std.specs.Prelude.{◌≡◌, ◌++◌, OnOk};
 
 use std::alloc::AllocError;
 
-/// Appends a text.
 pub(crate) fn push(text: &mut Vec<u8>, more: &str) -> Result<(), AllocError>
     ensures { OnOk result (text.new.items ≡ text.old.items ++ more.now) }
 {

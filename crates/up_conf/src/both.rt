@@ -1,10 +1,10 @@
-//! Two values, each of which memory may refuse.
+//! Two values, each of which may fail for lack of memory.
 ghost use Rattle.std.specs.Prelude.{◌≡◌, IfOk, Ok};
 
 use std::alloc::AllocError;
 
-/// Both values, or that memory ran out if one of them was refused. The other is dropped here, where the prover knows no more of it than its
-/// type's name: in a function that makes nine values each way out would drop those made so far, field by field.
+/// Both values, or `AllocError` if either failed. The other is dropped here, where the prover knows no more of it than its type's name: in
+/// a function that makes nine values each way out would drop those made so far, field by field.
 pub(crate) fn both<A: Drop, B: Drop>(
     first: Result<A, AllocError>,
     second: Result<B, AllocError>,

@@ -1,11 +1,10 @@
-//! Equal copies of what stanzas say.
+//! Copies of the parts of stanzas.
 ghost use Rattle.std.specs.Prelude.{◌≡◌, IfOk};
 
 use std::alloc::{AllocError, Global};
 use up_stanza::{Exit, Setting};
 use up_text::Items;
 
-/// Equal exits in memory of their own.
 pub(crate) fn copy_exits(alloc: Global, exits: &[Exit]) -> Result<Items<Exit>, AllocError>
     ensures { IfOk result (λ copied. copied ≡ exits.now) }
 {
@@ -16,7 +15,6 @@ pub(crate) fn copy_exits(alloc: Global, exits: &[Exit]) -> Result<Items<Exit>, A
     Ok(Items::new(copied))
 }
 
-/// Equal settings in memory of their own.
 pub(crate) fn copy_settings(
     alloc: Global,
     settings: &[Setting],

@@ -5,7 +5,7 @@ use std::alloc::{AllocError, Global};
 use std::marker::Model;
 use up_text::{Items, Text};
 
-/// A file by its path below the folder.
+/// A file with its path below the folder.
 #[derive(Drop)]
 pub struct File {
     pub path: Text,
@@ -28,7 +28,6 @@ impl Model for Folder {
 }
 
 impl Folder {
-    /// An empty folder.
     pub fn new(alloc: Global) -> Self
         ensures { result ≡ [] }
     {
@@ -37,7 +36,6 @@ impl Folder {
         }
     }
 
-    /// Adds a file at the end.
     pub fn add(&mut self, path: Text, bytes: Items<u8>) -> Result<(), AllocError>
         ensures added { OnOk result (self.new ≡ self.old ++ record { path = path; bytes = bytes } ∷ []) }
         ensures unchanged { OnErr result (self.new ≡ self.old) }
@@ -46,7 +44,6 @@ impl Folder {
         Ok(())
     }
 
-    /// The files, in order.
     pub fn as_slice(&self) -> &[File]
         ensures { result.now ≡ self.now }
     {

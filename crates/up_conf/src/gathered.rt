@@ -1,4 +1,4 @@
-//! Gathers the keys that stanzas set and export. A job may have many, so each is found by a tree: keys chosen by whoever writes a file
+//! Gathers the keys that stanzas set and export. A job may have many, so each is looked up in a tree: keys chosen by the author of a file
 //! cost no more than others.
 ghost use Rattle.std.specs.Prelude.{◌≡◌, ◌<◌, ◌++◌, ◌∷◌, [], List, ℕ, IfOk, OnOk, Some, not, if◌then◌else◌, length, slice_set};
 ghost use Rattle.std.specs.List.{list_any};
@@ -15,7 +15,7 @@ use std::collections::{BTreeMap, BTreeSet};
 use up_stanza::{Setting, Stanza};
 use up_text::{Items, Text};
 
-/// Where the keys stand that are gathered so far.
+/// The positions of the keys that are gathered so far.
 type Places<'a> = BTreeMap<&'a str, usize>;
 
 fn find(places: &Places, key: &str) -> Option<usize>
@@ -27,7 +27,7 @@ fn find(places: &Places, key: &str) -> Option<usize>
     }
 }
 
-// Notes where a key stands.
+// Records the position of a key.
 fn index<'a>(places: &mut Places<'a>, key: &'a str, place: usize) -> Result<(), AllocError>
     ensures { OnOk result ((other : Bytes)
         → get_by (λ k. slice_cmp nat_cmp other k.now) places.new
@@ -45,7 +45,7 @@ fn replace(settings: &mut Vec<Setting>, place: usize, setting: Setting)
     settings[place] = setting;
 }
 
-// Adds a setting whose key isn't there.
+// Adds a setting whose key is new.
 fn add<'a>(
     settings: &mut Vec<Setting>,
     places: &mut Places<'a>,
@@ -63,7 +63,7 @@ fn add<'a>(
     Ok(())
 }
 
-// Sets a key.
+// An existing key keeps its position; the new value replaces the old.
 fn put<'a>(
     settings: &mut Vec<Setting>,
     places: &mut Places<'a>,
@@ -83,7 +83,6 @@ fn put<'a>(
     Ok(())
 }
 
-// Sets what a stanza sets.
 fn put_stanza<'a>(
     settings: &mut Vec<Setting>,
     places: &mut Places<'a>,
@@ -100,7 +99,6 @@ fn put_stanza<'a>(
     }
 }
 
-// Sets what stanzas set.
 fn put_stanzas<'a>(
     settings: &mut Vec<Setting>,
     places: &mut Places<'a>,
@@ -117,7 +115,7 @@ fn put_stanzas<'a>(
     Ok(())
 }
 
-/// What the stanzas of two files set.
+/// The settings of two files' stanzas; those of the second replace those of the first.
 #[tactic(auto, using(crate::proofs::Gathers::summed_both))]
 pub(crate) fn gather_env(
     alloc: Global,
@@ -133,7 +131,7 @@ pub(crate) fn gather_env(
     Ok(Items::new(settings))
 }
 
-// Notes a key, and whether it is new.
+// Records a key, and returns whether it is new.
 fn note<'a>(seen: &mut BTreeSet<&'a str>, key: &'a str) -> Result<bool, AllocError>
     ensures new { IfOk result (λ new. (keys : List Bytes) → AreSeen seen.old keys
         → new ≡ not (list_any (bytes_eq key.now) keys)) }
@@ -144,7 +142,7 @@ fn note<'a>(seen: &mut BTreeSet<&'a str>, key: &'a str) -> Result<bool, AllocErr
     Ok(new)
 }
 
-// Adds a key, if it isn't there.
+// Adds a key, unless it is present already.
 fn add_key<'a>(
     keys: &mut Vec<Text>,
     seen: &mut BTreeSet<&'a str>,
@@ -179,7 +177,6 @@ fn add_keys<'a>(
     Ok(())
 }
 
-// Adds what a stanza exports.
 fn add_stanza<'a>(
     keys: &mut Vec<Text>,
     seen: &mut BTreeSet<&'a str>,
@@ -196,7 +193,6 @@ fn add_stanza<'a>(
     }
 }
 
-// Adds what stanzas export.
 fn add_stanzas<'a>(
     keys: &mut Vec<Text>,
     seen: &mut BTreeSet<&'a str>,
@@ -213,7 +209,7 @@ fn add_stanzas<'a>(
     Ok(())
 }
 
-/// The keys that the stanzas of two files export.
+/// The keys that the stanzas of two files export, each once.
 #[tactic(auto, using(crate::proofs::Gathers::summed_both))]
 pub(crate) fn gather_export(
     alloc: Global,

@@ -1,4 +1,4 @@
-//! What the files of a job say of it.
+//! The definition of a job by its files.
 ghost use Rattle.std.specs.Prelude.{◌≡◌, IfOk};
 
 use crate::copies::{copy_exits, copy_settings};
@@ -18,23 +18,23 @@ pub struct JobDef {
     pub respawn: bool,
     /// Whether its processes' output is dropped: `console none`.
     pub silent: bool,
-    /// The name of an instance, before it is expanded. Empty if the job has one instance alone.
+    /// The name of an instance, before it is expanded. Empty if the job has only one instance.
     pub instance: Text,
-    /// The folder in which its processes run (`chdir`), as it is written; if that is empty, `/`.
+    /// The folder in which its processes run (`chdir`), as it is written; `/` if it is empty.
     pub dir: Text,
     /// How often it is respawned.
     pub limit: Limit,
     /// The signal that ends its main process.
     pub kill_signal: Signal,
-    /// How many seconds later the main process is killed.
+    /// The seconds from that signal until the main process is killed.
     pub kill_timeout: u32,
     /// The signal by which its main process is asked to read its configuration again; HUP without the stanza.
     pub reload_signal: Signal,
-    /// What it sets in its environment; the keys are distinct.
+    /// The variables that it sets in its environment; the keys are distinct.
     pub env: Items<Setting>,
-    /// The keys that its events carry; they are distinct.
+    /// The keys of the variables that its events carry; they are distinct.
     pub export: Items<Text>,
-    /// The ends of its main process that are no failure; they are distinct.
+    /// The ends of its main process that aren't failures; they are distinct.
     pub normal: Items<Exit>,
     pub main: Option<Action>,
     pub pre_start: Option<Action>,
@@ -48,7 +48,6 @@ pub struct JobDef {
 }
 
 impl JobDef {
-    /// An equal value in memory of its own.
     pub fn copy(&self, alloc: Global) -> Result<Self, AllocError>
         ensures { IfOk result (λ job. job ≡ self.now) }
     {

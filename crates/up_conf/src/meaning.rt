@@ -1,4 +1,4 @@
-//! What stanzas make of a job.
+//! The job that stanzas define.
 ghost use Rattle.std.specs.Prelude.{◌≡◌, ◌++◌, [], IfOk};
 ghost use Rattle.up_conf.specs.Gathering.{others_after};
 ghost use Rattle.up_conf.specs.Jobs.{job_of, plain_job};
@@ -11,7 +11,7 @@ use std::alloc::{AllocError, Global};
 use up_stanza::{Stanza, Stanzas};
 use up_text::Name;
 
-// What the stanzas of two files make of a job, but for its keys.
+// The job that the stanzas of two files define, except for its keys.
 fn outline_of<'a>(
     alloc: Global,
     conf: &'a [Stanza],
@@ -24,7 +24,6 @@ fn outline_of<'a>(
     with_stanzas(outline, over)
 }
 
-// The job of this name that the stanzas of two files define.
 #[tactic(auto, using(crate::proofs::Meanings::job_of_both))]
 fn define(alloc: Global, name: Name, conf: &[Stanza], over: &[Stanza]) -> Result<JobDef, AllocError>
     ensures { IfOk result (λ job. job ≡ job_of name (conf.now ++ over.now)) }
@@ -37,8 +36,8 @@ fn define(alloc: Global, name: Name, conf: &[Stanza], over: &[Stanza]) -> Result
     outline.into_job(alloc, name, env, export)
 }
 
-/// The job of this name that stanzas define: the last of each kind counts, `env`, `export` and `normal exit` add up, and `manual`
-/// drops each `start on` before it.
+/// The job that stanzas define: the last of each kind counts, `env`, `export` and `normal exit` add up, and `manual` removes each earlier
+/// `start on`.
 #[tactic(auto, using(crate::proofs::Meanings::none_after))]
 pub fn job_of(alloc: Global, name: Name, stanzas: &Stanzas) -> Result<JobDef, AllocError>
     ensures { IfOk result (λ job. job ≡ job_of name stanzas.now) }
@@ -47,7 +46,7 @@ pub fn job_of(alloc: Global, name: Name, stanzas: &Stanzas) -> Result<JobDef, Al
     Ok(job)
 }
 
-/// The job of this name that the stanzas of its file define, followed by those of its override.
+/// The job that the stanzas of its file define, followed by those of its override.
 pub fn apply_override(
     alloc: Global,
     name: Name,

@@ -1,4 +1,4 @@
-//! Puts jobs and faults in order.
+//! Sorts jobs and faults.
 ghost use Rattle.std.specs.Prelude.{◌≡◌, OnOk};
 ghost use Rattle.up_conf.specs.Order.{in_order};
 

@@ -1,4 +1,4 @@
-//! What stanzas make of a job, while they hold what it says: a text, a command or an expression that a later stanza replaces is never
+//! A job under construction, which borrows from its stanzas: a text, a command or an expression that a later stanza replaces is never
 //! copied.
 ghost use Rattle.std.specs.Prelude.{◌≡◌, ◌∷◌, [], IfOk, option_copied, unwrap_or};
 ghost use Rattle.std.specs.List.{list_any};
@@ -15,7 +15,7 @@ use up_expr::Condition;
 use up_stanza::{Action, Console, Exit, Limit, Process, Setting, Signal, Stanza};
 use up_text::{Items, Name, Text};
 
-/// What stanzas make of a job, seen by contracts as a job without a name and without keys.
+/// A job under construction, seen by contracts as a job without a name and without keys.
 #[derive(Drop)]
 pub(crate) struct Outline<'a> {
     task: bool,
@@ -61,7 +61,7 @@ fn has_exit(exits: &[Exit], exit: &Exit) -> bool
     exits.iter().any(|other| exit.is(*other))
 }
 
-// Adds an exit, if it isn't there.
+// Adds an exit, unless it is present already.
 fn add_exit(exits: Items<Exit>, exit: &Exit) -> Result<Items<Exit>, AllocError>
     ensures { IfOk result (λ new. new ≡ with_new_item same_exit exits exit.now) }
 {
@@ -83,7 +83,7 @@ fn add_exits(exits: Items<Exit>, others: &[Exit]) -> Result<Items<Exit>, AllocEr
     Ok(exits)
 }
 
-/// No stanza yet.
+/// The defaults, before any stanza.
 pub(crate) fn plain_outline<'a>(alloc: Global) -> Outline<'a>
     ensures { result ≡ plain_job [] }
 {
@@ -111,7 +111,6 @@ pub(crate) fn plain_outline<'a>(alloc: Global) -> Outline<'a>
     }
 }
 
-// The job after a process's action.
 fn with_action<'a>(job: Outline<'a>, process: Process, action: &'a Action) -> Outline<'a>
     ensures { result ≡ others_after job.entry (Runs process action.now ∷ []) }
 {
@@ -127,7 +126,6 @@ fn with_action<'a>(job: Outline<'a>, process: Process, action: &'a Action) -> Ou
     job
 }
 
-// The job after exits are normal.
 fn with_normal<'a>(job: Outline<'a>, exits: &[Exit]) -> Result<Outline<'a>, AllocError>
     ensures { IfOk result (λ new. new ≡ others_after job.entry (NormalExit exits.now ∷ [])) }
 {
@@ -136,7 +134,7 @@ fn with_normal<'a>(job: Outline<'a>, exits: &[Exit]) -> Result<Outline<'a>, Allo
     Ok(job)
 }
 
-// The job after a stanza, but for the keys that it sets and exports.
+// The job after a stanza, except for the keys that it sets and exports.
 fn with_stanza<'a>(job: Outline<'a>, stanza: &'a Stanza) -> Result<Outline<'a>, AllocError>
     ensures { IfOk result (λ new. new ≡ others_after job.entry (stanza.now ∷ [])) }
 {
@@ -161,7 +159,7 @@ fn with_stanza<'a>(job: Outline<'a>, stanza: &'a Stanza) -> Result<Outline<'a>, 
     Ok(job)
 }
 
-/// The job after stanzas, but for the keys that they set and export.
+/// The job after stanzas, except for the keys that they set and export.
 pub(crate) fn with_stanzas<'a>(
     job: Outline<'a>,
     stanzas: &'a [Stanza],
@@ -175,7 +173,7 @@ pub(crate) fn with_stanzas<'a>(
     Ok(job)
 }
 
-// A text of its own, empty if there is none.
+// Empty if there is no text.
 fn copy_text(alloc: Global, text: Option<&Text>) -> Result<Text, AllocError>
     ensures { IfOk result (λ copied. copied ≡ unwrap_or (option_copied text.entry) []) }
 {
@@ -210,7 +208,7 @@ fn copy_tree(alloc: Global, tree: Option<&Condition>) -> Result<Option<Condition
 }
 
 impl<'a> Outline<'a> {
-    /// The job with this name and these keys, which holds all that it says.
+    /// The job with this name and these keys, with copies of everything borrowed.
     pub(crate) fn into_job(
         self,
         alloc: Global,
@@ -274,7 +272,7 @@ impl<'a> Outline<'a> {
     }
 }
 
-/// What a job says, without its name and its keys, with these exits as its own.
+/// An existing job, without its name and its keys, and with these exits in place of its own.
 pub(crate) fn outline_of<'a>(job: &'a JobDef, normal: Items<Exit>) -> Outline<'a>
     requires { normal ≡ job.now.normal }
     ensures { result ≡ record job.now { name = []; env = []; export = [] } }

@@ -1,4 +1,4 @@
-//! The overrides that were parsed, so that each is parsed once: its job takes the stanzas, and the report the fault.
+//! The parsed overrides, so that each is parsed once: its job takes the stanzas, and the report the fault.
 ghost use Rattle.std.specs.Prelude.{IfOk};
 ghost use Rattle.up_stanza.specs.Confs.{conf_of};
 ghost use Rattle.up_stanza.specs.Reading.{IsConf};
@@ -8,7 +8,7 @@ use std::collections::BTreeMap;
 use std::marker::Model;
 use up_stanza::{ConfFault, Stanzas, read_bytes};
 
-/// What the bytes of an override say: contracts see the bytes.
+/// The result of parsing an override: contracts see the bytes.
 #[derive(Drop)]
 struct Parsed<'a> {
     bytes: &'a [u8],
@@ -40,7 +40,7 @@ impl<'a> Overrides<'a> {
         }
     }
 
-    /// The stanzas of an override, or its fault: taken out if these bytes were parsed before.
+    /// The stanzas of an override, or its fault: taken out if these bytes were parsed before, else parsed now.
     pub(crate) fn take(
         &mut self,
         alloc: Global,
@@ -63,7 +63,7 @@ impl<'a> Overrides<'a> {
         }
     }
 
-    /// Keeps what an override says.
+    /// Keeps the result of parsing an override.
     pub(crate) fn keep(
         &mut self,
         name: &'a str,

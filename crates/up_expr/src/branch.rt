@@ -9,7 +9,7 @@ use crate::expr::Leaf;
 use crate::node::Node;
 use std::marker::Model;
 
-/// A part of an expression: one of its operators, with all that it joins, or a leaf. Contracts see it as its tree.
+/// A part of an expression: one of its operators, with everything below it, or a leaf. Contracts see it as its tree.
 #[derive(Drop)]
 pub struct Branch<'a> {
     // The nodes of the part, its root last.
@@ -30,7 +30,7 @@ impl<'a> Model for Branch<'a> {
     ghost invariant = { λ branch. IsLaid branch.nodes.now };
 }
 
-/// What stands at the root of a part of an expression.
+/// The root of a part of an expression.
 #[derive(Drop)]
 pub enum Root<'a> {
     /// An event that the leaf matches.
@@ -50,7 +50,7 @@ fn split_root(nodes: &[Node]) -> (&[Node], &Node)
     (&nodes[..below], &nodes[below])
 }
 
-// The nodes of the left side and those of the right one, whose roots have these places.
+// The nodes of the left side and those of the right one, by the positions of their roots.
 fn sides(nodes: &[Node], left: u16, right: u16) -> (&[Node], &[Node])
     requires order { left ≤ right }
     requires within { right - left ≤ length nodes.now }
@@ -68,7 +68,6 @@ impl<'a> Branch<'a> {
         Branch { nodes }
     }
 
-    /// How many nodes it has.
     pub fn len(&self) -> usize
         ensures count { result ≡ size self.now }
         ensures some { 0 < result }
@@ -76,7 +75,6 @@ impl<'a> Branch<'a> {
         self.nodes.len()
     }
 
-    /// Its root, with the parts on both sides.
     pub fn root(&self) -> Root<'a>
         ensures { tree_at result ≡ self.now }
     {

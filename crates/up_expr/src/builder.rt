@@ -12,12 +12,12 @@ use std::alloc::{AllocError, Global};
 use std::marker::Model;
 use up_text::Items;
 
-/// Makes an expression of leaves, each given before the operator that joins it. Contracts see it as the trees made so far, the newest
+/// Makes an expression of leaves, each added before the operator that joins it. Contracts see it as the trees made so far, the newest
 /// first.
 #[derive(Drop)]
 pub struct Builder {
     nodes: Vec<Node>,
-    // Where the nodes of each tree begin.
+    // The index of the first node of each tree.
     starts: Vec<u16>,
 }
 
@@ -37,7 +37,7 @@ impl Model for Builder {
     ghost invariant = { λ builder. AreTrees builder.nodes.items builder.starts.items };
 }
 
-// Appends a node. Where memory is refused nothing changes.
+// Out of memory, nothing changes.
 fn push_node(nodes: &mut Vec<Node>, node: Node) -> Result<(), AllocError>
     ensures pushed { OnOk result (nodes.new.items ≡ nodes.old.items ++ node ∷ []) }
     ensures unchanged { OnErr result (nodes.new.items ≡ nodes.old.items) }
@@ -46,7 +46,7 @@ fn push_node(nodes: &mut Vec<Node>, node: Node) -> Result<(), AllocError>
     Ok(())
 }
 
-// Appends where a tree begins. Where memory is refused nothing changes.
+// Out of memory, nothing changes.
 fn push_start(starts: &mut Vec<u16>, start: u16) -> Result<(), AllocError>
     ensures pushed { OnOk result (starts.new.items ≡ starts.old.items ++ start ∷ []) }
     ensures unchanged { OnErr result (starts.new.items ≡ starts.old.items) }
@@ -55,7 +55,6 @@ fn push_start(starts: &mut Vec<u16>, start: u16) -> Result<(), AllocError>
     Ok(())
 }
 
-// Takes the last beginning away.
 fn pop_start(starts: &mut Vec<u16>)
     ensures { starts.new.items ≡ take (length starts.old.items - 1) starts.old.items }
 {
@@ -87,14 +86,14 @@ impl Builder {
         }
     }
 
-    /// How many trees there are that aren't joined.
+    /// The number of trees that aren't joined yet.
     pub fn len(&self) -> usize
         ensures { result ≡ length self.now }
     {
         self.starts.len()
     }
 
-    /// Adds a leaf. Where memory is refused nothing changes.
+    /// Adds a leaf. Out of memory, nothing changes.
     pub fn leaf(&mut self, leaf: Leaf) -> Result<(), AllocError>
         requires { sizes self.old < MAX_NODES }
         ensures added { OnOk result (self.new ≡ One leaf ∷ self.old) }
@@ -111,8 +110,8 @@ impl Builder {
         }
     }
 
-    /// Joins the newest two, the older one on the left, to what both or either says. Returns whether there are two. Where there
-    /// aren't, or memory is refused, nothing changes.
+    /// Joins the newest two trees, the older one on the left, by `and` or `or`. Returns whether there are two. If there aren't, or memory
+    /// runs out, nothing changes.
     pub fn join(&mut self, both: bool) -> Result<bool, AllocError>
         requires { sizes self.old < MAX_NODES }
         ensures joined { IfOk result (λ done. joined both self.old ≡ (if done then Some self.new else None)) }
@@ -128,7 +127,7 @@ impl Builder {
         Ok(true)
     }
 
-    /// The one expression.
+    /// The one expression that is left.
     pub fn finish(self) -> Condition
         requires { length self ≡ 1 }
         ensures { self ≡ result ∷ [] }

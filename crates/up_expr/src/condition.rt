@@ -34,7 +34,6 @@ impl Model for Condition {
 }
 
 impl Condition {
-    /// The condition that an expression states.
     pub fn new(alloc: Global, expr: &Expr) -> Result<Self, AllocError>
         requires { size (tree_of expr.now) ≤ MAX_NODES }
         ensures { IfOk result (λ made. made ≡ tree_of expr.now) }
@@ -43,7 +42,6 @@ impl Condition {
         Ok(Condition { nodes })
     }
 
-    /// The condition of nodes that are laid flat.
     pub(crate) fn of(nodes: Nodes) -> Self
         requires { IsFlat nodes (tree_in nodes) }
         ensures { result ≡ tree_in nodes }
@@ -51,21 +49,19 @@ impl Condition {
         Condition { nodes }
     }
 
-    /// Its nodes.
     pub fn nodes(&self) -> &Nodes
         ensures { IsFlat result.now self.now }
     {
         &self.nodes
     }
 
-    /// The whole of it, to be gone through from its root.
+    /// The whole condition as a branch, to be traversed from its root.
     pub fn root(&self) -> Branch<'_>
         ensures { result ≡ self.now }
     {
         Branch::new(self.nodes.as_slice())
     }
 
-    /// An equal condition in memory of its own.
     pub fn copy(&self, alloc: Global) -> Result<Self, AllocError>
         ensures { IfOk result (λ copied. copied ≡ self.now) }
     {

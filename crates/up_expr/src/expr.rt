@@ -2,7 +2,7 @@
 
 use up_text::{Items, Name, Text};
 
-/// What a job waits for (init(5), `start on` and `stop on`).
+/// The events that a job waits for (init(5), `start on` and `stop on`).
 #[derive(Debug, Drop)]
 pub enum Expr {
     /// An event that the leaf matches.
@@ -13,20 +13,20 @@ pub enum Expr {
     Or(Box<Expr>, Box<Expr>),
 }
 
-/// An event's name with what its variables must be. Positional values come before keyed ones.
+/// An event's name with the tests of its variables. Positional values come before keyed ones.
 #[derive(Debug, Drop)]
 pub struct Leaf {
     pub event: Name,
     pub values: Items<Test>,
 }
 
-/// What one variable of an event must be. Each value is expanded and then matched as a pattern, fnmatch(3).
+/// The test of one variable of an event. Each value is expanded and then matched as a pattern, fnmatch(3).
 #[derive(Debug, Drop)]
 pub enum Test {
-    /// The variable at the place that this test has among the positional ones has such a value.
+    /// The variable whose position equals that of this test among the positional ones matches the value.
     Place(Text),
-    /// The variable of this key has such a value.
+    /// The variable with this key matches the value.
     Same(Text, Text),
-    /// There is no variable of this key, or its value is another.
+    /// There is no variable with this key, or it doesn't match the value.
     Differs(Text, Text),
 }

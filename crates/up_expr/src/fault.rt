@@ -1,23 +1,23 @@
-//! Why an expression is refused.
+//! Why an expression is rejected.
 ghost use Rattle.std.specs.Prelude.{◌≡◌};
 ghost use Rattle.up_expr.specs.Fault.{number_of};
 
 use std::alloc::AllocError;
 use thiserror::Error;
 
-/// Why an expression is refused.
+/// Why an expression is rejected.
 #[derive(Clone, Copy, Debug, PartialEq, Eq, Error)]
 pub enum ExprFault {
-    /// A name, an operator or a parenthesis is missing or stands where none may.
+    /// A name, an operator or a parenthesis is missing, or is where none is allowed.
     #[error("BadExpression")]
     BadExpression,
-    /// A positional value stands after a keyed one.
+    /// A positional value comes after a keyed one.
     #[error("ValueBeforeKey")]
     ValueBeforeKey,
-    /// An event's name has a byte that it may not have.
+    /// An event's name contains a byte that isn't allowed.
     #[error("BadName")]
     BadName,
-    /// A value isn't a pattern that is supported.
+    /// A value isn't a supported pattern.
     #[error("BadPattern")]
     BadPattern,
     /// An expansion isn't well formed.
@@ -26,7 +26,7 @@ pub enum ExprFault {
     /// The expression has more than 4,095 nodes, more than 256 parentheses open at once, or a leaf of more than 65,535 values.
     #[error("TooLarge")]
     TooLarge,
-    /// Memory was refused.
+    /// Out of memory.
     #[error("Memory")]
     Memory,
 }
@@ -43,7 +43,7 @@ impl From<AllocError> for ExprFault {
 }
 
 impl ExprFault {
-    /// The number by which a report names this refusal; its name is what it is printed as.
+    /// The number of this fault in a report; it is printed by its name.
     pub fn number(self) -> u8
         ensures { result ≡ number_of self }
     {

@@ -10,7 +10,7 @@ use crate::node::{Node, Nodes};
 use std::alloc::{AllocError, Global};
 use up_text::Items;
 
-/// The most nodes that an expression has.
+/// The greatest number of nodes of an expression.
 const MAX_NODES: usize = 4_095;
 
 fn push(nodes: &mut Vec<Node>, node: Node) -> Result<(), AllocError>
@@ -20,7 +20,7 @@ fn push(nodes: &mut Vec<Node>, node: Node) -> Result<(), AllocError>
     Ok(())
 }
 
-// Appends a node and returns its place.
+// Appends a node and returns its position.
 fn push_node(nodes: &mut Vec<Node>, node: Node) -> Result<u16, AllocError>
     requires room { length nodes.old.items < MAX_NODES }
     ensures pushed { OnOk result (nodes.new.items ≡ nodes.old.items ++ node ∷ []) }
@@ -31,7 +31,7 @@ fn push_node(nodes: &mut Vec<Node>, node: Node) -> Result<u16, AllocError>
     Ok(place)
 }
 
-// Appends the nodes of an expression and returns the place of the last one.
+// Appends the nodes of an expression and returns the position of the last one, its root.
 #[cycle(flattener)]
 fn append_nodes(alloc: Global, expr: &Expr, nodes: &mut Vec<Node>) -> Result<u16, AllocError>
     requires room { length nodes.old.items + size (tree_of expr.now) ≤ MAX_NODES }
@@ -60,7 +60,7 @@ fn append_nodes(alloc: Global, expr: &Expr, nodes: &mut Vec<Node>) -> Result<u16
     }
 }
 
-/// The nodes of an expression, which are as true as it is, and whose leaves are its leaves from left to right.
+/// The nodes of an expression. They have the same truth value, and the same leaves from left to right.
 pub fn flatten(alloc: Global, expr: &Expr) -> Result<Nodes, AllocError>
     requires { size (tree_of expr.now) ≤ MAX_NODES }
     ensures { IfOk result (λ nodes. IsFlat nodes (tree_of expr.now)) }

@@ -1,4 +1,4 @@
-//! Laws: what holds of every expression.
+//! Laws about every expression.
 ghost use Rattle.std.specs.Prelude.{◌≡◌, ◌↔◌, List, [], is_some, false};
 ghost use Rattle.std.specs.List.{list_any};
 ghost use Rattle.up_text.specs.declared.token.Token.{Token};
@@ -8,7 +8,7 @@ ghost use Rattle.up_expr.specs.Syntax.{Writes};
 ghost use Rattle.up_expr.specs.Trees.{Tree};
 ghost use Rattle.up_expr.specs.Truth.{Sight, first, holds, taken};
 
-/// Tokens write one tree at most, however they are cut into parts.
+/// A list of tokens has one tree at most, however it is cut into parts.
 pub fn one_tree()
     ensures { (tokens : List Token) (tree other : Tree) → Writes tokens tree → Writes tokens other
         → tree ≡ other }

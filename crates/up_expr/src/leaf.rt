@@ -11,7 +11,7 @@ use crate::fault::ExprFault;
 use std::alloc::{AllocError, Global};
 use up_text::{Env, Expanded, Name, Text, TextFault, expand, glob, supported};
 
-// The pattern that a value is after its expansion, if it is one.
+// The pattern that a value expands to, or `None` if a key is unset, or the value isn't well formed or isn't a supported pattern.
 fn pattern_of(alloc: Global, value: &Text, env: &Env) -> Result<Option<Text>, AllocError>
     ensures pattern { IfOk result (λ pattern. pattern ≡ pattern_of (expand value.now env.now)) }
 {
@@ -29,7 +29,7 @@ fn pattern_of(alloc: Global, value: &Text, env: &Env) -> Result<Option<Text>, Al
     }
 }
 
-// Whether a variable, if there is one, matches the pattern.
+// Whether there are a pattern and a variable, and they match.
 fn meets(pattern: &Option<Text>, found: Option<&str>) -> bool
     ensures { result ≡ meets pattern.now (option_map (λ value. value.now) found.entry) }
 {
@@ -55,7 +55,7 @@ fn misses(pattern: &Option<Text>, found: Option<&str>) -> bool
     }
 }
 
-// The value of the variable at a place, if there is one.
+// The value of the variable at a position, if there is one.
 fn nth_value(vars: &Env, k: usize) -> Option<&str>
     ensures { option_map (λ value. value.now) result ≡ nth_value k vars.now }
 {
@@ -67,7 +67,7 @@ fn nth_value(vars: &Env, k: usize) -> Option<&str>
     }
 }
 
-// Whether a value is a pattern, after its expansion, that a variable matches.
+// Whether a value expands to a pattern that the variable matches.
 fn value_meets(
     alloc: Global,
     value: &Text,
@@ -81,7 +81,7 @@ fn value_meets(
     Ok(meets(&pattern, found))
 }
 
-// Whether a value is a pattern, after its expansion, and no variable matches it.
+// Whether a value expands to a pattern, and no variable matches it.
 fn value_misses(
     alloc: Global,
     value: &Text,
@@ -95,7 +95,7 @@ fn value_misses(
     Ok(misses(&pattern, found))
 }
 
-// Whether the test at a place holds.
+// Whether the test holds, `k` being its position among the positional ones.
 fn test_holds(
     alloc: Global,
     test: &Test,
@@ -118,7 +118,7 @@ fn is_positional(test: &Test) -> bool
     matches!(test, Test::Place(_))
 }
 
-// Whether all tests hold, if the first positional value is for the first variable.
+// Whether all tests hold, the first positional value being for the first variable.
 fn tests_hold(alloc: Global, tests: &[Test], vars: &Env, env: &Env) -> Result<bool, AllocError>
     ensures holds { IfOk result (λ holds. holds ≡ tests_hold vars.now env.now 0 tests.now) }
 {
@@ -134,8 +134,8 @@ fn tests_hold(alloc: Global, tests: &[Test], vars: &Env, env: &Env) -> Result<bo
     Ok(true)
 }
 
-/// Whether the leaf matches an event of this name with these variables, if its values expand by `env` (init(5), "Event
-/// conditions"). The only fault is `Memory`.
+/// Whether the leaf matches an event of this name with these variables, its values being expanded by `env` (init(5), "Event conditions").
+/// The only fault is `Memory`.
 pub fn leaf_matches(
     alloc: Global,
     leaf: &Leaf,

@@ -1,7 +1,7 @@
 //! Expressions: which events a job waits for (init(5), `start on` and `stop on`).
 //!
-//! [`parse_expr`] reads an expression from its tokens, and [`leaf_matches`] tells whether one of its leaves matches an event. What an
-//! expression says of the events that it has seen stands in `specs/Truth.antt`.
+//! [`parse_expr`] reads an expression from its tokens, and [`leaf_matches`] checks whether one of its leaves matches an event. The
+//! truth of an expression after the events seen so far is defined in `specs/Truth.antt`.
 #![tactic(auto)]
 
 pub mod branch;

@@ -5,7 +5,7 @@ use crate::expr::Leaf;
 use std::marker::Model;
 use up_text::Items;
 
-/// A node of an expression. Its sides are named by their places among the nodes.
+/// A node of an expression. Its sides are positions among the nodes.
 #[derive(Debug, Drop)]
 pub enum Node {
     /// An event that the leaf matches.
@@ -16,8 +16,8 @@ pub enum Node {
     Or(u16, u16),
 }
 
-/// The nodes of an expression, seen by contracts as their list in post-order: the right side stands just before its parent, the left
-/// side just before the first node of the right one, and the last node is the root.
+/// The nodes of an expression, seen by contracts as their list in post-order: the right side is just before its parent, the left side just
+/// before the first node of the right one, and the last node is the root.
 #[derive(Debug, Drop)]
 pub struct Nodes {
     nodes: Items<Node>,
@@ -43,14 +43,12 @@ impl Nodes {
         Nodes { nodes }
     }
 
-    /// How many nodes there are.
     pub fn len(&self) -> usize
         ensures { result ≡ length self.now }
     {
         self.as_slice().len()
     }
 
-    /// The node at this place.
     pub fn node(&self, i: usize) -> &Node
         requires { i < length self.now }
         ensures { slice_get self.now i ≡ Some result.now }
@@ -58,7 +56,6 @@ impl Nodes {
         &self.as_slice()[i]
     }
 
-    /// The nodes in order.
     pub fn as_slice(&self) -> &[Node]
         ensures { result.now ≡ self.now }
     {

@@ -12,7 +12,7 @@ use crate::value::{check_test, is_positional, make_test, parts_of};
 use std::alloc::{AllocError, Global};
 use up_text::{Items, Name, TextFault, Token};
 
-/// The most values that a leaf may have.
+/// The greatest number of values of a leaf.
 const MAX_VALUES: usize = 65_535;
 
 fn read_tests(alloc: Global, tokens: &[Token]) -> Result<Vec<Test>, AllocError>
@@ -25,7 +25,7 @@ fn read_tests(alloc: Global, tokens: &[Token]) -> Result<Vec<Test>, AllocError>
     Ok(tests)
 }
 
-// Refuses values of which one may not stand in a job file.
+// Fails if one of the values isn't allowed in a job file.
 fn check_tests(tokens: &[Token]) -> Result<(), ExprFault>
     ensures ok { IfOk result (λ done. list_all values.is_good (values.values_of tokens.now) ≡ true) }
     ensures refused { OnErr result (list_all values.is_good (values.values_of tokens.now) ≡ false) }
@@ -54,7 +54,7 @@ fn has_positional(tokens: &[Token]) -> bool
     false
 }
 
-// Whether no positional value stands after a keyed one.
+// Whether no positional value comes after a keyed one.
 fn is_ordered(tokens: &[Token]) -> bool
     ensures { result ≡ values.is_ordered (values.values_of tokens.now) }
 {
@@ -66,7 +66,7 @@ fn is_ordered(tokens: &[Token]) -> bool
     true
 }
 
-// Refuses tokens that aren't the values of a leaf. Takes no memory.
+// Fails if the tokens aren't the values of a leaf. Takes no memory.
 fn check_values(tokens: &[Token]) -> Result<(), ExprFault>
     ensures ok { IfOk result (λ done. values.are_values (values.values_of tokens.now) ≡ true) }
     ensures refused { OnErr result (values.are_values (values.values_of tokens.now) ≡ false) }
@@ -92,7 +92,7 @@ fn read_values(alloc: Global, tokens: &[Token]) -> Result<Items<Test>, ExprFault
     Ok(Items::new(tests))
 }
 
-// The fault of a leaf whose event has no name: of its name, or of its values.
+// The fault of a leaf whose name couldn't be made. Out of memory, a fault of its values is reported first.
 fn fault_of(fault: TextFault, others: &[Token]) -> ExprFault
     ensures memory { fault ≡ text.Memory
         → IsFaultOf (values.are_values (values.values_of others.now)) result }
@@ -110,7 +110,7 @@ fn fault_of(fault: TextFault, others: &[Token]) -> ExprFault
     }
 }
 
-/// The leaf that tokens write, none of which is an operator or a parenthesis.
+/// The leaf that the tokens spell, none of which is an operator or a parenthesis.
 pub(crate) fn read_leaf(alloc: Global, tokens: &[Token]) -> Result<Leaf, ExprFault>
     requires { list_any values.is_symbol tokens.now ≡ false }
     ensures leaf { IfOk result (λ leaf. values.leaf_of tokens.now ≡ Some leaf) }

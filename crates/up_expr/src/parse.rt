@@ -21,13 +21,13 @@ use crate::symbol::{is_and, is_close, is_open, is_operator, leaf_len};
 use std::alloc::{AllocError, Global};
 use up_text::Token;
 
-/// How many parentheses may be open at once.
+/// The greatest number of parentheses that are open at once.
 const MAX_DEPTH: usize = 256;
 
-/// The most operators: one less than the 2,048 leaves of 4,095 nodes.
+/// The greatest number of operators: one less than the 2,048 leaves of 4,095 nodes.
 const MAX_OPERATORS: usize = 2_047;
 
-// The trees with the operator between them.
+// Joins two trees by an operator.
 fn join_trees(
     alloc: Global,
     left: Parsed,
@@ -45,8 +45,8 @@ fn join_trees(
     }
 }
 
-// The same of trees that may be out of memory: then nothing is kept, and what stands after them is still read, so that a fault there
-// comes before the refusal of memory.
+// The same for trees that are `None` if memory ran out: then nothing is kept, and the rest is still read, so that a fault there is reported
+// instead of `Memory`.
 fn join(
     alloc: Global,
     left: Option<Parsed>,
@@ -68,7 +68,7 @@ fn join(
     }
 }
 
-// The leaf that the tokens write, unless memory is refused.
+// The leaf that the tokens spell, or `None` if memory ran out.
 fn keep_leaf(alloc: Global, tokens: &[Token]) -> Result<Option<Parsed>, ExprFault>
     requires { list_any values.is_symbol tokens.now ≡ false }
     ensures read { IfOk result (λ kept. (leaf : Leaf) × (values.leaf_of tokens.now ≡ Some leaf)
@@ -83,7 +83,7 @@ fn keep_leaf(alloc: Global, tokens: &[Token]) -> Result<Option<Parsed>, ExprFaul
     }
 }
 
-// The leaf in front, and what stands after it.
+// The leaf at the start, and the rest after it.
 fn read_operand(alloc: Global, tokens: &[Token]) -> Result<(Option<Parsed>, &[Token]), ExprFault>
     requires { begins values.is_open tokens.now ≡ false }
     ensures read { IfOk result (λ found. (tree : Tree) × Keeps found.0 tree
@@ -101,7 +101,7 @@ fn read_operand(alloc: Global, tokens: &[Token]) -> Result<(Option<Parsed>, &[To
     }
 }
 
-// The opening parenthesis in front, if one comes, and what stands after it.
+// The opening parenthesis at the start, if there is one, and the rest after it.
 fn after_open(tokens: &[Token]) -> Option<(&Token, &[Token])>
     ensures { MatchOption result (begins values.is_open tokens.now
         ≡ false) (λ found. (tokens.now ≡ found.0.now ∷ found.1.now) × (values.is_open found.0.now ≡ true)) }
@@ -109,7 +109,7 @@ fn after_open(tokens: &[Token]) -> Option<(&Token, &[Token])>
     tokens.split_first().filter(|(token, _)| is_open(token))
 }
 
-// What stands after a closing parenthesis, which must come.
+// The rest after a closing parenthesis, which is required.
 fn after_close(tokens: &[Token]) -> Result<&[Token], ExprFault>
     ensures ok { IfOk result (λ after. (begins values.is_close tokens.now ≡ true)
         × (after.now ≡ drop 1 tokens.now) × (0 < length tokens.now)) }
@@ -122,7 +122,7 @@ fn after_close(tokens: &[Token]) -> Result<&[Token], ExprFault>
     }
 }
 
-// What stands after the operator in front, if one comes.
+// The operator at the start, if there is one, and the rest after it.
 fn after_operator(tokens: &[Token]) -> Option<(&Token, &[Token])>
     ensures { MatchOption result (begins values.is_operator tokens.now
         ≡ false) (λ found. (tokens.now ≡ found.0.now ∷ found.1.now)
@@ -131,7 +131,7 @@ fn after_operator(tokens: &[Token]) -> Option<(&Token, &[Token])>
     tokens.split_first().filter(|(token, _)| is_operator(token))
 }
 
-// The leaf or the parentheses in front, within so many open parentheses, and what stands after.
+// The leaf or the parenthesized expression at the start, inside `depth` open parentheses, and the rest after it.
 #[cycle(parser)]
 fn parse_item(
     alloc: Global,
@@ -161,7 +161,7 @@ fn parse_item(
     }
 }
 
-// The longest expression in front, within so many open parentheses, and what stands after it.
+// The longest expression at the start, inside `depth` open parentheses, and the rest after it.
 #[cycle(parser)]
 fn parse_items(
     alloc: Global,
@@ -193,7 +193,6 @@ fn parse_items(
     Ok((tree, rest))
 }
 
-// How many operators there are.
 fn operators(tokens: &[Token]) -> usize
     ensures { result ≡ operators tokens.now }
 {
@@ -206,7 +205,7 @@ fn operators(tokens: &[Token]) -> usize
     count
 }
 
-// The expression that all tokens write, however many operators it has; nothing if memory was refused.
+// The expression that all tokens spell, however many operators it has; `None` if memory ran out.
 fn parse_all(alloc: Global, tokens: &[Token]) -> Result<Option<Parsed>, ExprFault>
     ensures read { IfOk result (λ kept. (tree : Tree) × Keeps kept tree
         × (outcome tokens.now begin ≡ Some tree)) }
@@ -225,7 +224,7 @@ fn parse_all(alloc: Global, tokens: &[Token]) -> Result<Option<Parsed>, ExprFaul
     }
 }
 
-// A tree of few nodes as they lie one after another.
+// Lays out a tree of at most 4,095 nodes as a list.
 fn lay(alloc: Global, tree: &Parsed) -> Result<Condition, ExprFault>
     requires { size tree.now ≤ MAX_NODES }
     ensures laid { IfOk result (λ condition. condition ≡ tree.now) }
@@ -235,8 +234,8 @@ fn lay(alloc: Global, tree: &Parsed) -> Result<Condition, ExprFault>
     Ok(condition)
 }
 
-/// The expression that the tokens write (init(5), `start on`). Refused with `Memory` only if they write one, and with any other fault
-/// only if they write none.
+/// The expression that the tokens spell (init(5), `start on`). Fails with `Memory` only if they spell one, and with any other fault only if
+/// they don't.
 pub fn parse_expr(alloc: Global, tokens: &[Token]) -> Result<Condition, ExprFault>
     ensures tree { IfOk result (λ tree. Writes tokens.now tree) }
     ensures memory { IfErr result (λ fault. fault ≡ Memory → (tree : Tree) × Writes tokens.now tree) }

@@ -1,4 +1,4 @@
-//! An expression as the parser joins it from its parts.
+//! An expression while the parser joins it from its parts.
 
 ghost use Rattle.std.specs.Prelude.{◌≡◌};
 ghost use Rattle.up_expr.specs.Trees.{tree_of};
@@ -6,7 +6,7 @@ ghost use Rattle.up_expr.specs.Trees.{tree_of};
 use crate::expr::Expr;
 use std::marker::Model;
 
-/// An expression in boxes, seen by contracts as its tree without where its parts lie in memory.
+/// An expression in boxes, seen by contracts as its tree without the addresses of its parts in memory.
 #[derive(Drop)]
 pub(crate) struct Parsed {
     expr: Expr,

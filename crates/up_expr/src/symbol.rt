@@ -42,7 +42,7 @@ fn is_symbol(token: &Token) -> bool
     is_open(token) || is_close(token) || is_operator(token)
 }
 
-/// How many tokens the leaf in front has: the longest run of tokens that are neither operators nor parentheses.
+/// The number of tokens of the leaf at the start: the longest run of tokens that are neither operators nor parentheses.
 pub(crate) fn leaf_len(tokens: &[Token]) -> usize
     ensures { result ≡ prefix_len (λ token. not (values.is_symbol token)) tokens.now }
 {

@@ -1,4 +1,4 @@
-//! What the value tokens of a leaf say.
+//! The meaning of a leaf's value tokens.
 ghost use Rattle.std.specs.Prelude.{◌≡◌, IfErr, IfOk, OnErr, true, false, MatchOption, length, ◌-◌, take};
 ghost use Rattle.up_expr.specs.Values as values;
 ghost use Rattle.up_expr.specs.Parts.{test_in};
@@ -10,7 +10,7 @@ use std::alloc::{AllocError, Global};
 use up_text::env::{is_key, split_pair};
 use up_text::{Text, is_expandable, supported};
 
-// The key of KEY!, if the text is that.
+// The key of a text `KEY!`, `None` for any other text.
 fn negated_key(text: &str) -> Option<&str>
     ensures { MatchOption result (values.is_negated_key text.now
         ≡ false) (λ key. (values.is_negated_key text.now ≡ true)
@@ -30,7 +30,7 @@ pub(crate) enum Parts<'a> {
     Differs(&'a str, &'a str),
 }
 
-/// What a value's text says, within the text. Takes no memory.
+/// Splits a value's text, borrowing its parts. Takes no memory.
 #[tactic(auto, unfolding(crate::specs::Values::test_of))]
 pub(crate) fn parts_of(text: &str) -> Parts<'_>
     ensures { test_in result ≡ values.test_of text.now }
@@ -46,7 +46,7 @@ pub(crate) fn parts_of(text: &str) -> Parts<'_>
     Parts::Place(text)
 }
 
-/// What the parts of a value's text say, in memory of its own.
+/// Copies the parts of a value's text.
 pub(crate) fn make_test(alloc: Global, parts: Parts) -> Result<Test, AllocError>
     ensures { IfOk result (λ test. test ≡ test_in parts.entry) }
 {
@@ -72,7 +72,7 @@ pub(crate) fn is_positional(parts: Parts) -> bool
     matches!(parts, Parts::Place(_))
 }
 
-// Refuses a value that is no good expansion or no supported pattern.
+// Fails if the value isn't well formed as an expansion or isn't a supported pattern.
 fn check_value(value: &str) -> Result<(), ExprFault>
     ensures ok { IfOk result (λ done. values.is_good_value value.now ≡ true) }
     ensures refused { OnErr result (values.is_good_value value.now ≡ false) }
@@ -87,7 +87,7 @@ fn check_value(value: &str) -> Result<(), ExprFault>
     Ok(())
 }
 
-/// Refuses a value that may not stand in a job file.
+/// Fails if the value isn't allowed in a job file.
 pub(crate) fn check_test(parts: Parts) -> Result<(), ExprFault>
     ensures ok { IfOk result (λ done. values.is_good (test_in parts.entry) ≡ true) }
     ensures refused { OnErr result (values.is_good (test_in parts.entry) ≡ false) }

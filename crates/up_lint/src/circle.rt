@@ -1,4 +1,4 @@
-//! Which jobs can be started at all, where jobs wait for one another.
+//! Finds the jobs that can be started at all, as jobs may wait for one another.
 ghost use Rattle.std.specs.Prelude.{◌≡◌, IfOk, OnOk, option_copied};
 ghost use Rattle.up_lint.specs.Circles.{condition_may, job_may, leaf_may, may_start, started_after, started_in, tree_may, with_started};
 
@@ -9,7 +9,7 @@ use up_conf::JobDef;
 use up_expr::{Branch, Condition, Leaf, Root};
 use up_text::Text;
 
-/// Whether an event may come that a job makes.
+/// Whether an event of this job may occur: the job isn't in the folder, or it can be started, or no job is named.
 pub(crate) fn job_may(names: &Names<'_>, started: &Names<'_>, job: Option<&Text>) -> bool
     ensures { result ≡ job_may names.now started.now (option_copied job.entry) }
 {
@@ -62,7 +62,7 @@ fn may_start(names: &Names<'_>, commanded: &Names<'_>, started: &Names<'_>, job:
     condition_may(names, started, &job.start_on) || commanded.has(job.name.as_str().as_bytes())
 }
 
-// Adds a job to those that start, if it may.
+// Adds a job to those that can be started, if it can.
 fn add_started<'a>(
     started: &mut Names<'a>,
     names: &Names<'_>,
@@ -79,7 +79,6 @@ fn add_started<'a>(
     }
 }
 
-// The same of one job after another.
 fn add_all<'a>(
     started: &mut Names<'a>,
     names: &Names<'_>,
@@ -94,7 +93,7 @@ fn add_all<'a>(
     Ok(())
 }
 
-/// The names of the jobs that can be started.
+/// The names of the jobs that can be started, in the order in which they are found.
 #[tactic(auto, unfolding(crate::specs::Circles::started_in))]
 pub(crate) fn started_in<'a>(
     alloc: Global,

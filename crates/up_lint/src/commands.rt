@@ -1,4 +1,4 @@
-//! What the commands and the scripts of jobs say, word by word.
+//! The words of the commands and the scripts of jobs.
 ghost use Rattle.std.specs.Prelude.{◌≡◌, OnOk, false};
 ghost use Rattle.std.specs.List.{slice_split};
 ghost use Rattle.up_lint.specs.Commands.{is_passed, name_at, names_after, names_by, names_in, waits_after};
@@ -11,7 +11,7 @@ use std::alloc::AllocError;
 use up_conf::{Action, JobDef};
 use up_text::Text;
 
-// Whether a piece of a command is none, or an option.
+// Whether a word of a command is empty or an option.
 fn is_passed(piece: &[u8]) -> bool
     ensures { result ≡ is_passed piece.now }
 {
@@ -21,14 +21,14 @@ fn is_passed(piece: &[u8]) -> bool
     }
 }
 
-// Whether a name may stand after a word.
+// Whether the next word may be a name.
 fn waits_after(verb: &str, waits: bool, word: &[u8]) -> bool
     ensures { result ≡ waits_after verb.now waits word.now }
 {
     word == verb.as_bytes() || (waits && is_passed(word))
 }
 
-// Adds a word, if a name may stand there, but for one that doesn't count.
+// Adds a word if a name is expected there, unless it is `except`.
 fn add_name<'a>(
     names: &mut Names<'a>,
     except: &str,
@@ -44,7 +44,7 @@ fn add_name<'a>(
     }
 }
 
-// Adds the names among these words.
+// Adds the names after the verb among these words.
 fn add_words<'a>(
     names: &mut Names<'a>,
     verb: &str,
@@ -62,7 +62,7 @@ fn add_words<'a>(
     Ok(())
 }
 
-// The same of the words of a script.
+// The same for the words of a script.
 fn add_script<'a>(
     names: &mut Names<'a>,
     verb: &str,
@@ -85,7 +85,6 @@ fn add_script<'a>(
     }
 }
 
-// The same of what a process runs.
 fn add_action<'a>(
     names: &mut Names<'a>,
     verb: &str,
@@ -101,7 +100,7 @@ fn add_action<'a>(
     }
 }
 
-/// Adds what a job's commands name after a verb, as `start --no-wait NAME`, but for one name that doesn't count.
+/// Adds the names after a verb in a job's commands, as in `start --no-wait NAME`, except one name that doesn't count.
 #[tactic(auto, using(crate::proofs::Adding::added_both))]
 pub(crate) fn add_named<'a>(
     names: &mut Names<'a>,

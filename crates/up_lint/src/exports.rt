@@ -1,4 +1,4 @@
-//! Which variables stand in the jobs of a folder.
+//! The variables that occur in the jobs of a folder.
 ghost use Rattle.std.specs.Prelude.{◌≡◌, ◌∷◌, [], OnOk};
 ghost use Rattle.std.specs.List.{flat_map, list_any};
 ghost use Rattle.std.specs.Str.{bytes_eq};
@@ -13,7 +13,7 @@ use up_conf::{Action, JobDef, Setting};
 use up_expr::{Condition, Leaf, Node, Test};
 use up_text::Text;
 
-// Whether the init sets a variable in events and processes.
+// Whether init sets a variable in events and processes.
 fn is_init_key(key: &str) -> bool
     ensures { result ≡ list_any (bytes_eq key.now) init_keys }
 {
@@ -29,7 +29,7 @@ fn is_init_key(key: &str) -> bool
         || key == "UPSTART_STOP_EVENTS"
 }
 
-// Adds what may be a key in a text.
+// Adds every piece of a text that may be a key.
 fn add_pieces<'a>(names: &mut Names<'a>, text: &'a [u8]) -> Result<(), AllocError>
     ensures { OnOk result (names.new ≡ with_names names.old (keys_in text.now)) }
 {
@@ -135,7 +135,7 @@ fn add_settings<'a>(names: &mut Names<'a>, settings: &'a [Setting]) -> Result<()
     Ok(())
 }
 
-// Adds the keys in what a job sets and waits for, and in the names of its instances.
+// Adds the keys in a job's settings, its expressions and its instance name.
 #[tactic(auto, using(crate::proofs::Adding::added_both), unfolding(crate::specs::Exports::set_keys))]
 fn add_set<'a>(names: &mut Names<'a>, job: &'a JobDef) -> Result<(), AllocError>
     ensures { OnOk result (names.new ≡ with_names names.old (set_keys job.now)) }
@@ -146,7 +146,7 @@ fn add_set<'a>(names: &mut Names<'a>, job: &'a JobDef) -> Result<(), AllocError>
     add_text(names, &job.instance)
 }
 
-// Adds the keys in what a job runs.
+// Adds the keys in a job's commands and scripts.
 #[tactic(auto, using(crate::proofs::Adding::added_both), unfolding(crate::specs::Exports::run_keys))]
 fn add_run<'a>(names: &mut Names<'a>, job: &'a JobDef) -> Result<(), AllocError>
     ensures { OnOk result (names.new ≡ with_names names.old (run_keys job.now)) }
@@ -158,7 +158,7 @@ fn add_run<'a>(names: &mut Names<'a>, job: &'a JobDef) -> Result<(), AllocError>
     add_action(names, &job.post_stop)
 }
 
-// Adds the keys in a job, but for what it exports.
+// Adds the keys in a job, except for those that it exports.
 #[tactic(auto, using(crate::proofs::Adding::added_both), unfolding(crate::specs::Exports::job_keys))]
 fn add_job<'a>(names: &mut Names<'a>, job: &'a JobDef) -> Result<(), AllocError>
     ensures { OnOk result (names.new ≡ with_names names.old (job_keys job.now)) }
@@ -167,7 +167,7 @@ fn add_job<'a>(names: &mut Names<'a>, job: &'a JobDef) -> Result<(), AllocError>
     add_run(names, job)
 }
 
-/// Adds the keys that stand in jobs, but for what they export.
+/// Adds the keys that occur in jobs, except for those that they export.
 pub(crate) fn add_keys<'a>(names: &mut Names<'a>, jobs: &'a [JobDef]) -> Result<(), AllocError>
     ensures { OnOk result (names.new ≡ with_names names.old (flat_map job_keys jobs.now)) }
 {
@@ -177,7 +177,7 @@ pub(crate) fn add_keys<'a>(names: &mut Names<'a>, jobs: &'a [JobDef]) -> Result<
     Ok(())
 }
 
-/// Whether nothing sets a variable that is exported, where these stand in jobs.
+/// Whether nothing sets an exported variable, `keys` being those that occur in jobs.
 pub(crate) fn is_unset(keys: &Names<'_>, key: &str) -> bool
     ensures { result ≡ is_unset keys.now key.now }
 {

@@ -1,4 +1,4 @@
-//! The names in a folder that its jobs are looked at with.
+//! The names in a folder, with which its jobs are checked.
 ghost use Rattle.std.specs.Prelude.{◌≡◌, ◌++◌, [], IfOk, OnOk};
 ghost use Rattle.std.specs.List.{flat_map};
 ghost use Rattle.up_lint.specs.Events.{scene_of};
@@ -15,7 +15,6 @@ use std::alloc::{AllocError, Global};
 use up_conf::JobDef;
 use up_text::Text;
 
-// The names of jobs.
 fn names_of<'a>(alloc: Global, jobs: &'a [JobDef]) -> Result<Names<'a>, AllocError>
     ensures { IfOk result (λ names. names ≡ with_names [] (flat_map name_in jobs.now)) }
 {
@@ -26,7 +25,6 @@ fn names_of<'a>(alloc: Global, jobs: &'a [JobDef]) -> Result<Names<'a>, AllocErr
     Ok(names)
 }
 
-// The names of the jobs that commands of other jobs start.
 fn commanded_in<'a>(alloc: Global, jobs: &'a [JobDef]) -> Result<Names<'a>, AllocError>
     ensures { IfOk result (λ names. names ≡ with_names [] (flat_map starts_of jobs.now)) }
 {
@@ -37,7 +35,7 @@ fn commanded_in<'a>(alloc: Global, jobs: &'a [JobDef]) -> Result<Names<'a>, Allo
     Ok(names)
 }
 
-// Adds the events that commands emit. None has an empty name.
+// Adds the events that commands emit. An event's name is never empty, so `""` excludes none.
 fn add_emitted<'a>(names: &mut Names<'a>, jobs: &'a [JobDef]) -> Result<(), AllocError>
     ensures { OnOk result (names.new ≡ with_names names.old (flat_map emits_of jobs.now)) }
 {
@@ -47,7 +45,7 @@ fn add_emitted<'a>(names: &mut Names<'a>, jobs: &'a [JobDef]) -> Result<(), Allo
     Ok(())
 }
 
-// The names of the events that come from outside, that jobs declare, and that commands emit.
+// The events from outside, those that jobs declare, and those that commands emit.
 #[tactic(auto, using(crate::proofs::Adding::added_both))]
 fn given_in<'a>(
     alloc: Global,
@@ -65,7 +63,7 @@ fn given_in<'a>(
     Ok(names)
 }
 
-// The keys that stand in jobs, but for what they export.
+// The keys that occur in jobs, except for those that they export.
 fn keys_of<'a>(alloc: Global, jobs: &'a [JobDef]) -> Result<Names<'a>, AllocError>
     ensures { IfOk result (λ names. names ≡ with_names [] (flat_map job_keys jobs.now)) }
 {
@@ -74,7 +72,7 @@ fn keys_of<'a>(alloc: Global, jobs: &'a [JobDef]) -> Result<Names<'a>, AllocErro
     Ok(names)
 }
 
-/// What a folder's jobs are looked at with.
+/// The names with which a folder's jobs are checked.
 pub(crate) fn world_of<'a>(
     alloc: Global,
     jobs: &'a [JobDef],

@@ -1,4 +1,4 @@
-//! The stanzas of a file as they stand there: the line on which each begins, and its words.
+//! The stanzas of a file as written: the line on which each begins, and its words.
 ghost use Rattle.std.specs.Prelude.{◌≡◌, ◌<◌, ◌++◌, IfOk, OnOk, length};
 ghost use Rattle.std.specs.List.{list_any};
 ghost use Rattle.std.specs.Str.{bytes_eq};
@@ -9,32 +9,32 @@ use crate::next::{Next, next_token, read_texts};
 use std::alloc::{AllocError, Global};
 use up_text::{Items, Lexer, Text};
 
-/// A stanza as it stands in its file.
+/// A stanza as written in its file.
 #[derive(Drop)]
 pub struct Head {
     /// Whether the file is the job's override.
     pub over: bool,
     /// The line on which it begins, counted from 1.
     pub line: u32,
-    /// Its words; of a script none but those before it.
+    /// Its words; for a script only those before it.
     pub words: Items<Text>,
 }
 
-// Whether parentheses are words of their own after a stanza's first word.
+// Whether parentheses after a stanza's first word are words of their own.
 fn takes_parens(word: &Text) -> bool
     ensures { result ≡ takes_parens word.now }
 {
     word.is("start") || word.is("stop")
 }
 
-// Whether this word begins what a process other than the main one runs.
+// Whether this word begins a stanza of a process other than the main one.
 fn is_process(word: &Text) -> bool
     ensures { result ≡ is_process word.now }
 {
     word.is("pre-start") || word.is("post-start") || word.is("pre-stop") || word.is("post-stop")
 }
 
-// Whether a script stands on the next lines.
+// Whether a script begins on the next line.
 fn opens_script(words: &[Text]) -> bool
     ensures { result ≡ opens_script words.now }
 {
@@ -45,7 +45,7 @@ fn opens_script(words: &[Text]) -> bool
     }
 }
 
-// A word, and then those up to the stanza's end.
+// Puts this word before those up to the stanza's end.
 fn read_others(
     alloc: Global,
     word: Text,
@@ -64,7 +64,7 @@ fn read_others(
     }
 }
 
-// The words of the stanza in front, after which the lexer then stands; `None` if one is refused.
+// The words of the next stanza, `None` if one has a fault; the lexer's position is then after the stanza.
 fn read_words(alloc: Global, lexer: &mut Lexer) -> Result<Option<Items<Text>>, AllocError>
     ensures { IfOk result (λ words. IsFound (words_at lexer.old) words lexer.new) }
 {
@@ -77,7 +77,7 @@ fn read_words(alloc: Global, lexer: &mut Lexer) -> Result<Option<Items<Text>>, A
     }
 }
 
-// Passes the script on the next lines, if a stanza of these words opens one.
+// Passes the script on the next lines, if these words open one.
 fn pass_script(alloc: Global, words: &[Text], lexer: &mut Lexer) -> Result<(), AllocError>
     ensures { OnOk result (lexer.new ≡ after_words words.now lexer.old) }
 {
@@ -90,7 +90,7 @@ fn pass_script(alloc: Global, words: &[Text], lexer: &mut Lexer) -> Result<(), A
     }
 }
 
-// The next stanza; the lexer then stands after it, and after its script. `None` if it is refused.
+// The next stanza, `None` if it has a fault; the lexer's position is then after it, and after its script.
 fn read_head(alloc: Global, over: bool, lexer: &mut Lexer) -> Result<Option<Head>, AllocError>
     ensures { IfOk result (λ head. IsFound (head_at over lexer.old) head lexer.new) }
 {
@@ -102,7 +102,7 @@ fn read_head(alloc: Global, over: bool, lexer: &mut Lexer) -> Result<Option<Head
     Ok(Some(Head { over, line, words }))
 }
 
-/// Appends the stanzas of a text, up to the first one with a word that is refused.
+/// Appends the stanzas of a text, up to the first one with a faulty word.
 pub(crate) fn push_heads(heads: &mut Vec<Head>, over: bool, text: &str) -> Result<(), AllocError>
     requires { length text.now < 4294967295 }
     ensures { OnOk result (heads.new.items ≡ heads.old.items ++ heads_of over text.now) }
@@ -123,14 +123,12 @@ pub(crate) fn push_heads(heads: &mut Vec<Head>, over: bool, text: &str) -> Resul
     Ok(())
 }
 
-/// Whether one of the texts is this one.
 pub(crate) fn has_text(texts: &[Text], wanted: &str) -> bool
     ensures { result ≡ list_any (bytes_eq wanted.now) texts.now }
 {
     texts.iter().any(|text| wanted == text.as_str())
 }
 
-/// Whether a stanza begins with this word.
 pub(crate) fn begins(head: &Head, word: &str) -> bool
     ensures { result ≡ begins word.now head.now }
 {
@@ -140,7 +138,7 @@ pub(crate) fn begins(head: &Head, word: &str) -> bool
     }
 }
 
-/// Whether a stanza that begins with a word has this one after it.
+/// Whether a stanza begins with the word `first` and contains this word after it.
 pub(crate) fn says(head: &Head, first: &str, word: &str) -> bool
     ensures { result ≡ says first.now word.now head.now }
 {

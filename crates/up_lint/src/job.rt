@@ -16,7 +16,7 @@ use std::alloc::AllocError;
 use up_conf::{File, JobDef};
 use up_text::Text;
 
-// Appends what is asked of the events of both expressions.
+// Appends the warnings about the events of both expressions.
 fn push_events(
     warnings: &mut Vec<Warning>,
     world: &World<'_>,
@@ -181,7 +181,7 @@ fn push_life(
     push_stop(warnings, world, job, sheet)
 }
 
-// Appends the warnings of a job, by its stanzas.
+// Appends the warnings of a job, given its stanzas.
 #[tactic(auto, unfolding(crate::specs::Lint::sheet_warnings))]
 fn push_sheet(
     warnings: &mut Vec<Warning>,
@@ -201,7 +201,6 @@ fn push_sheet(
     push_life(warnings, world, job, sheet)
 }
 
-/// Appends the warnings of a job.
 pub(crate) fn push_job(
     warnings: &mut Vec<Warning>,
     world: &World<'_>,

@@ -1,11 +1,11 @@
-//! Whose event an expression waits for.
+//! The job whose event an expression waits for.
 ghost use Rattle.std.specs.Prelude.{◌≡◌, option_copied};
 ghost use Rattle.up_lint.specs.Leaves.{job_in};
 
 use up_expr::Test;
 use up_text::Text;
 
-/// The job whose event it must be, by its first value or by the variable JOB.
+/// The job whose event is meant, by the first positional value or the variable JOB, whichever comes first.
 pub(crate) fn job_in(tests: &[Test]) -> Option<&Text>
     ensures { option_copied result ≡ job_in tests.now }
 {

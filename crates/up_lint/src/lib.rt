@@ -1,4 +1,4 @@
-//! What is allowed in a folder of job files and is most likely a mistake: warnings, each with its place.
+//! Finds what is allowed in a folder of job files but is most likely a mistake: warnings, each with its file and line.
 #![tactic(auto)]
 
 mod circle;

@@ -29,7 +29,7 @@ fn push_jobs(
     Ok(())
 }
 
-// The warnings of all jobs, in order.
+// The warnings of all jobs, sorted.
 fn warnings_of(
     alloc: Global,
     world: &World<'_>,
@@ -70,7 +70,7 @@ fn push_lines(text: &mut Vec<u8>, left_out: &[Kind], warnings: &[Warning]) -> Re
     Ok(())
 }
 
-// The same, where jobs declare these events.
+// Appends the lines of the warnings, `declared` being the events that jobs declare by `emits`.
 #[tactic(auto, unfolding(crate::specs::Lint::lint_by))]
 fn push_by<'a>(
     text: &mut Vec<u8>,
@@ -90,8 +90,8 @@ fn push_by<'a>(
     push_lines(text, left_out, warnings.as_slice())
 }
 
-/// Appends a line for each warning of these jobs, which the files of a folder define, but for those of the kinds that are left out. `outside`
-/// has the names of the events that come from outside.
+/// Appends a line for each warning of these jobs, which the files of a folder define, except those of the kinds that are left out.
+/// `outside` contains the names of the events that come from outside.
 #[tactic(auto, unfolding(crate::specs::Lint::lint_of))]
 pub fn push_lint(
     text: &mut Vec<u8>,

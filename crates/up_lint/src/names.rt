@@ -12,7 +12,7 @@ use std::collections::BTreeSet;
 use std::marker::Model;
 use up_text::Text;
 
-/// Names, each once, in the order in which they came. They are found by a tree.
+/// Names, each once, in the order in which they were added. They are looked up in a tree.
 #[derive(Drop)]
 pub(crate) struct Names<'a> {
     list: Vec<&'a [u8]>,
@@ -31,7 +31,7 @@ impl<'a> Model for Names<'a> {
     ghost invariant = { λ n. AreSeen n.seen (texts n.list.items) };
 }
 
-// Adds a name that isn't there. If memory runs out, neither has it.
+// Adds a new name. Out of memory, neither collection contains it.
 fn append<'a>(
     list: &mut Vec<&'a [u8]>,
     seen: &mut BTreeSet<&'a [u8]>,
@@ -54,7 +54,7 @@ fn append<'a>(
     }
 }
 
-// Adds a name, if it isn't there.
+// Adds a name, unless it is present already.
 fn add_to<'a>(
     list: &mut Vec<&'a [u8]>,
     seen: &mut BTreeSet<&'a [u8]>,
@@ -72,7 +72,6 @@ fn add_to<'a>(
 }
 
 impl<'a> Names<'a> {
-    /// No name.
     pub(crate) fn new(alloc: Global) -> Self
         ensures { result ≡ [] }
     {
@@ -82,21 +81,19 @@ impl<'a> Names<'a> {
         }
     }
 
-    /// Adds a name, if it isn't there.
+    /// Adds a name, unless it is present already.
     pub(crate) fn add(&mut self, name: &'a [u8]) -> Result<(), AllocError>
         ensures { OnOk result (self.new ≡ with_new_item bytes_eq self.old name.now) }
     {
         add_to(&mut self.list, &mut self.seen, name)
     }
 
-    /// How many there are.
     pub(crate) fn len(&self) -> usize
         ensures { result ≡ length self.now }
     {
         self.list.len()
     }
 
-    /// Whether one of the names is this one.
     pub(crate) fn has(&self, name: &[u8]) -> bool
         ensures { result ≡ list_any (bytes_eq name.now) self.now }
     {
@@ -104,7 +101,6 @@ impl<'a> Names<'a> {
     }
 }
 
-/// Adds names.
 pub(crate) fn add_texts<'a>(names: &mut Names<'a>, texts: &'a [Text]) -> Result<(), AllocError>
     ensures { OnOk result (names.new ≡ with_names names.old texts.now) }
 {

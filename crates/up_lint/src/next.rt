@@ -6,17 +6,17 @@ ghost use Rattle.up_stanza.specs.Stanzas.{texts_at};
 use std::alloc::{AllocError, Global};
 use up_text::{Items, Lexer, Text, TextFault, Token};
 
-/// What comes next in a stanza.
+/// The next item of a stanza.
 #[derive(Drop)]
 pub(crate) enum Next {
     Token(Token),
     /// The stanza's end.
     End,
-    /// A token that is refused.
+    /// A token with a fault.
     Refused,
 }
 
-/// What comes next; after a token or an end the lexer goes on.
+/// The next item; after a token or an end the lexer moves past it.
 #[tactic(auto, using(up_text::proofs::Statements::got_by, up_text::proofs::Statements::ended_by, up_text::proofs::Statements::fails_by))]
 pub(crate) fn next_token(alloc: Global, lexer: &mut Lexer) -> Result<Next, AllocError>
     ensures { IfOk result (Continues lexer.old lexer.new) }
@@ -29,7 +29,7 @@ pub(crate) fn next_token(alloc: Global, lexer: &mut Lexer) -> Result<Next, Alloc
     }
 }
 
-/// The texts of the tokens up to the stanza's end, after which the lexer then stands; `None` if one is refused.
+/// The texts of the tokens up to the stanza's end, `None` if one has a fault; the lexer's position is then after it.
 pub(crate) fn read_texts(
     alloc: Global,
     lexer: &mut Lexer,

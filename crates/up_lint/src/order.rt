@@ -1,4 +1,4 @@
-//! Puts warnings in order.
+//! Sorts warnings.
 ghost use Rattle.std.specs.Prelude.{◌≡◌, ◌∷◌, [], OnOk};
 ghost use Rattle.up_conf.specs.Order.{in_order};
 ghost use Rattle.up_lint.specs.Lint.{ordered};
@@ -18,7 +18,7 @@ fn sort_by_path(warnings: &mut Vec<Warning>) -> Result<(), AllocError>
     warnings.sort_by(|warning, other| warning.path.as_str().cmp(other.path.as_str()))
 }
 
-/// Sorts warnings in byte order of paths, those of a file in the order of lines; those of a line stay as they come.
+/// Sorts warnings by the byte order of paths, then by line; those of the same line keep their order.
 pub(crate) fn sort(warnings: &mut Vec<Warning>) -> Result<(), AllocError>
     ensures { OnOk result (warnings.new.items ≡ ordered warnings.old.items) }
 {

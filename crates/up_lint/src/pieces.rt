@@ -5,12 +5,12 @@ ghost use Rattle.up_lint.specs.Pieces.{is_between_words, is_cut, pieces_by};
 
 use up_text::env::is_key_byte;
 
-/// Which bytes a text is cut at.
+/// The bytes at which a text is cut.
 #[derive(Clone, Copy)]
 pub(crate) enum Cut {
-    /// Those between the words of a script.
+    /// Those that separate the words of a script.
     Words,
-    /// Those that no key has.
+    /// Those that a key can't contain.
     Keys,
 }
 
@@ -33,14 +33,13 @@ fn is_cut(cut: Cut, byte: u8) -> bool
     }
 }
 
-// How long the first piece is.
 fn piece_len(cut: Cut, text: &[u8]) -> usize
     ensures { result ≡ position_or_len (is_cut cut) text.now }
 {
     text.iter().take_while(|byte| !is_cut(cut, **byte)).count()
 }
 
-// What stands after the byte at a place.
+// The rest after the byte at this position.
 fn rest_after(text: &[u8], end: usize) -> &[u8]
     requires { end < length text.now }
     ensures { result.now ≡ drop (end + 1) text.now }
@@ -48,7 +47,7 @@ fn rest_after(text: &[u8], end: usize) -> &[u8]
     &text[end + 1..]
 }
 
-/// The first piece of a text, and what stands after the byte that it is cut at; `None` if it is the last.
+/// The first piece of a text, and the rest after the byte at which it is cut; `None` if it is the last piece.
 #[tactic(auto, using(crate::proofs::Splits::split_more, crate::proofs::Splits::split_none))]
 pub(crate) fn next_piece(cut: Cut, text: &[u8]) -> (&[u8], Option<&[u8]>)
     ensures pieces { slice_split (is_cut cut) text.now ≡ pieces_by cut result.0.now (option_copied result.1) }

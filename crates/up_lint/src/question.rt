@@ -1,4 +1,4 @@
-//! What is asked of each event that an expression waits for.
+//! The checks of each event that an expression waits for.
 ghost use Rattle.std.specs.Prelude.{◌≡◌, ◌++◌, ◌∷◌, [], IfOk, OnOk, option_copied};
 ghost use Rattle.std.specs.List.{list_any};
 ghost use Rattle.up_expr.specs.Flat.{leaves_in, leaves_of};
@@ -14,14 +14,14 @@ use std::alloc::{AllocError, Global};
 use up_expr::{Condition, Leaf, Node, Test};
 use up_text::{Items, Text};
 
-/// What is asked of an event.
+/// A check of an event.
 #[derive(Clone, Copy)]
 pub(crate) enum Question {
-    /// Whether nothing gives it.
+    /// Whether nothing emits it.
     UnknownEvent,
-    /// Whether it is one of a job that isn't there.
+    /// Whether it is an event of a job that doesn't exist.
     UnknownJob,
-    /// Whether it is one of the job that waits for it.
+    /// Whether it is an event of the job that waits for it.
     BlocksItself,
 }
 
@@ -44,7 +44,7 @@ fn unknown_event<'l>(world: &World<'_>, leaf: &'l Leaf) -> Option<&'l str>
     }
 }
 
-// Whether a value may stand for more than itself by this byte.
+// Whether the byte may make a value match more than itself.
 #[tactic(auto, unfolding(crate::specs::Questions::is_special))]
 fn is_special(byte: u8) -> bool
     ensures { result ≡ is_special byte }
@@ -82,7 +82,7 @@ fn unknown_job<'l>(world: &World<'_>, leaf: &'l Leaf) -> Option<&'l str>
     }
 }
 
-// The job, if nothing but it is asked for.
+// The job, if it is the only condition on the event.
 fn job_alone(tests: &[Test]) -> Option<&Text>
     ensures { option_copied result ≡ job_alone tests.now }
 {
@@ -121,7 +121,7 @@ fn own_event<'l>(job: &str, side: Side, leaf: &'l Leaf) -> Option<&'l str>
     }
 }
 
-// What a warning is about, if there is one, of an event for which this job waits.
+// The name that a warning reports for an event for which this job waits; `None` if there is no warning.
 fn about<'l>(
     world: &World<'_>,
     job: &str,
@@ -138,7 +138,7 @@ fn about<'l>(
     }
 }
 
-// Adds a name, if there is one and it isn't there yet.
+// Adds the name, if there is one, unless it is present already.
 fn add_about(names: &mut Vec<Text>, name: Option<&str>) -> Result<(), AllocError>
     ensures { OnOk result (names.new.items ≡ with_about names.old.items (option_copied name.entry)) }
 {
@@ -153,7 +153,7 @@ fn add_about(names: &mut Vec<Text>, name: Option<&str>) -> Result<(), AllocError
     Ok(())
 }
 
-// Adds what a warning is about, if a node waits for an event.
+// Adds the name that a warning reports, if the node waits for an event.
 fn add_node(
     names: &mut Vec<Text>,
     world: &World<'_>,
@@ -171,7 +171,7 @@ fn add_node(
     }
 }
 
-// What warnings are about, each name once.
+// The names that warnings report, each once.
 #[tactic(auto, using(crate::proofs::Gathered::node_more))]
 fn gather_nodes(
     alloc: Global,
@@ -191,7 +191,6 @@ fn gather_nodes(
     Ok(Items::new(names))
 }
 
-// The same of an expression.
 fn gather(
     alloc: Global,
     world: &World<'_>,
@@ -232,7 +231,6 @@ fn kind_of(question: Question) -> Kind
     }
 }
 
-/// Appends the warnings of a job's expression.
 pub(crate) fn push_condition(
     warnings: &mut Vec<Warning>,
     world: &World<'_>,

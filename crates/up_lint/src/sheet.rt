@@ -1,4 +1,4 @@
-//! The stanzas of a job as they stand in its files: those of its own, and then those of its override.
+//! The stanzas of a job as written in its files: those of its own file, and then those of its override.
 ghost use Rattle.std.specs.Prelude.{◌≡◌, ◌≤◌, ◌++◌, IfOk, IfSome, OnOk, MatchOption, length, true, false};
 ghost use Rattle.up_lint.specs.declared.sheet.TheConstants.{MAX_LEN};
 ghost use Rattle.up_lint.specs.Sheets.{bytes_at, heads_in, is_manual, is_text, override_heads, path_of, sheet_of, spot_of};
@@ -9,19 +9,19 @@ use up_conf::File;
 use up_stanza::read_bytes;
 use up_text::{Items, Text, as_text};
 
-/// The longest text of which the stanzas are looked at, in bytes: no job file is longer.
+/// The longest text whose stanzas are read, in bytes: no job file is longer.
 const MAX_LEN: usize = 1_048_576;
 
-/// Where a stanza of a job stands.
+/// The file and line of a stanza of a job.
 #[derive(Clone, Copy)]
 pub struct Spot {
-    /// Whether that is in the job's override.
+    /// Whether it is in the job's override.
     pub over: bool,
     /// The line, counted from 1.
     pub line: u32,
 }
 
-/// The path of a job's own file, or of its override.
+/// The path of a job's own file, or of its override if `over` is set.
 pub(crate) fn path_of(alloc: Global, name: &str, over: bool) -> Result<Text, AllocError>
     ensures { IfOk result (λ path. path ≡ path_of name.now over) }
 {
@@ -30,7 +30,7 @@ pub(crate) fn path_of(alloc: Global, name: &str, over: bool) -> Result<Text, All
     Ok(Text::new(path))
 }
 
-// The bytes of the file with this path, none if there is no such file.
+// Empty if no file has this path.
 fn bytes_at<'a>(files: &'a [File], path: &str) -> &'a [u8]
     ensures { result.now ≡ bytes_at files.now path.now }
 {
@@ -42,7 +42,7 @@ fn bytes_at<'a>(files: &'a [File], path: &str) -> &'a [u8]
     &[]
 }
 
-// The text of which the stanzas are looked at.
+// `None` if the file is too long or isn't UTF-8.
 fn text_of(bytes: &[u8]) -> Option<&str>
     ensures test { MatchOption result (is_text bytes.now ≡ false) (λ text. is_text bytes.now ≡ true) }
     ensures same { IfSome result (λ text. text.now ≡ bytes.now) }
@@ -54,7 +54,6 @@ fn text_of(bytes: &[u8]) -> Option<&str>
     as_text(bytes)
 }
 
-// Appends the stanzas of a file.
 fn push_file(heads: &mut Vec<Head>, over: bool, bytes: &[u8]) -> Result<(), AllocError>
     ensures { OnOk result (heads.new.items ≡ heads.old.items ++ heads_in over bytes.now) }
 {
@@ -64,7 +63,7 @@ fn push_file(heads: &mut Vec<Head>, over: bool, bytes: &[u8]) -> Result<(), Allo
     }
 }
 
-// Appends the stanzas of an override, which counts for nothing if it is faulty.
+// Appends the stanzas of an override. A faulty override is ignored.
 fn push_override(heads: &mut Vec<Head>, bytes: &[u8]) -> Result<(), AllocError>
     ensures { OnOk result (heads.new.items ≡ heads.old.items ++ override_heads bytes.now) }
 {
@@ -77,7 +76,6 @@ fn push_override(heads: &mut Vec<Head>, bytes: &[u8]) -> Result<(), AllocError>
     }
 }
 
-// Appends the stanzas of a job's own file.
 fn push_conf(heads: &mut Vec<Head>, files: &[File], name: &str) -> Result<(), AllocError>
     ensures { OnOk result (heads.new.items
         ≡ heads.old.items ++ heads_in false (bytes_at files.now (path_of name.now false))) }
@@ -86,7 +84,6 @@ fn push_conf(heads: &mut Vec<Head>, files: &[File], name: &str) -> Result<(), Al
     push_file(heads, false, bytes_at(files, path.as_str()))
 }
 
-// Appends the stanzas of a job's override.
 fn push_over(heads: &mut Vec<Head>, files: &[File], name: &str) -> Result<(), AllocError>
     ensures { OnOk result (heads.new.items
         ≡ heads.old.items ++ override_heads (bytes_at files.now (path_of name.now true))) }
@@ -95,7 +92,7 @@ fn push_over(heads: &mut Vec<Head>, files: &[File], name: &str) -> Result<(), Al
     push_override(heads, bytes_at(files, path.as_str()))
 }
 
-/// The stanzas of the job of this name.
+/// The stanzas of a job's own file, then those of its override.
 #[tactic(auto, unfolding(crate::specs::Sheets::sheet_of))]
 pub(crate) fn sheet_of(alloc: Global, files: &[File], name: &str) -> Result<Items<Head>, AllocError>
     ensures { IfOk result (λ sheet. sheet ≡ sheet_of files.now name.now) }
@@ -106,7 +103,7 @@ pub(crate) fn sheet_of(alloc: Global, files: &[File], name: &str) -> Result<Item
     Ok(Items::new(heads))
 }
 
-/// Where the last stanza stands that begins with a word and has another after it; if there is none, the first line of the job's own
+/// The position of the last stanza that begins with `first` and contains `word` after it; if there is none, the first line of the job's own
 /// file.
 pub(crate) fn spot_of(sheet: &[Head], first: &str, word: &str) -> Spot
     ensures { result ≡ spot_of first.now word.now sheet.now }
@@ -126,7 +123,7 @@ pub(crate) fn spot_of(sheet: &[Head], first: &str, word: &str) -> Spot
     spot
 }
 
-/// Whether a job says `manual`.
+/// Whether a job has the stanza `manual`.
 pub(crate) fn is_manual(sheet: &[Head]) -> bool
     ensures { result ≡ is_manual sheet.now }
 {

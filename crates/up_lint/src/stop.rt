@@ -1,4 +1,4 @@
-//! Which jobs no event stops, once their `start on` has started them.
+//! Finds the jobs that no event stops, once their `start on` has started them.
 ghost use Rattle.std.specs.Prelude.{◌≡◌};
 ghost use Rattle.up_lint.specs.Events.{scene_of};
 ghost use Rattle.up_lint.specs.Stops.{is_never_stopped, is_stopped_by_none, may_follow, tree_follows};
@@ -9,7 +9,7 @@ use crate::world::{World, is_job_event};
 use up_conf::JobDef;
 use up_expr::{Branch, Condition, Leaf, Root};
 
-// Whether an event may be handled after one by which a `start on` comes true.
+// Whether an event may be handled after one that makes a `start on` true.
 fn may_follow(world: &World<'_>, leaf: &Leaf) -> bool
     ensures { result ≡ may_follow (scene_of world.now) leaf.now }
 {
@@ -46,7 +46,7 @@ fn is_stopped_by_none(
     }
 }
 
-/// Whether a job can be started, and its `stop on` can't come true after its `start on`.
+/// Whether a job can be started, and its `stop on` can't become true after its `start on`.
 pub(crate) fn is_never_stopped(world: &World<'_>, job: &JobDef) -> bool
     ensures { result ≡ is_never_stopped (scene_of world.now) job.now }
 {

@@ -1,4 +1,4 @@
-//! Warnings: what each is, where it stands, and the line that is printed of it.
+//! Warnings: their kinds, positions, and printed lines.
 ghost use Rattle.std.specs.Prelude.{◌≡◌, ◌++◌, ◌∷◌, [], IfOk, OnOk, map};
 ghost use Rattle.up_lint.specs.Warnings.{before_about, kind_in, kinds, line_of, name_of, place_text, same_kind, warning_of};
 
@@ -7,12 +7,12 @@ use crate::sheet::{Spot, path_of};
 use std::alloc::{AllocError, Global};
 use up_text::Text;
 
-/// What is most likely a mistake.
+/// A kind of likely mistake.
 #[derive(Clone, Copy, PartialEq, Eq)]
 pub enum Kind {
-    /// An expression waits for an event that nothing gives.
+    /// An expression waits for an event that nothing emits.
     UnknownEvent,
-    /// An expression waits for an event of a job that isn't there.
+    /// An expression waits for an event of a job that doesn't exist.
     UnknownJob,
     /// No event and no command starts a job.
     NeverStarted,
@@ -40,7 +40,6 @@ pub struct Warning {
     pub about: Text,
 }
 
-/// The name of a kind.
 pub fn name_of(kind: Kind) -> &'static str
     ensures { result.now ≡ name_of kind }
 {
@@ -56,7 +55,6 @@ pub fn name_of(kind: Kind) -> &'static str
     }
 }
 
-/// The kind of this name.
 pub fn kind_named(name: &str) -> Option<Kind>
     ensures { result ≡ kind_in name.now kinds }
 {
@@ -73,14 +71,13 @@ pub fn kind_named(name: &str) -> Option<Kind>
     }
 }
 
-/// Whether two kinds are the same.
 pub(crate) fn same_kind(kind: Kind, other: Kind) -> bool
     ensures { result ≡ same_kind kind other }
 {
     name_of(kind) == name_of(other)
 }
 
-// What is said before the name concerned.
+// The message up to the name concerned.
 fn before_about(kind: Kind) -> &'static str
     ensures { result.now ≡ before_about kind }
 {
@@ -96,7 +93,6 @@ fn before_about(kind: Kind) -> &'static str
     }
 }
 
-/// Makes the warning of a job at one of its lines.
 pub(crate) fn warning_of(
     alloc: Global,
     job: &str,
@@ -116,7 +112,6 @@ pub(crate) fn warning_of(
     })
 }
 
-/// Appends the warning of a job at one of its lines.
 pub(crate) fn push_warning(
     warnings: &mut Vec<Warning>,
     job: &str,
@@ -132,7 +127,7 @@ pub(crate) fn push_warning(
     Ok(())
 }
 
-/// Appends a warning of a job at one of its lines for each of these names.
+/// Appends a warning for each of these names.
 pub(crate) fn push_warnings(
     warnings: &mut Vec<Warning>,
     job: &str,
@@ -149,7 +144,7 @@ pub(crate) fn push_warnings(
     Ok(())
 }
 
-// Appends what stands before the text of a warning.
+// Appends the part of the line before the message: `PATH:LINE: warning: KIND: `.
 #[tactic(auto, unfolding(crate::specs::Warnings::place_text))]
 fn push_place(text: &mut Vec<u8>, warning: &Warning) -> Result<(), AllocError>
     ensures { OnOk result (text.new.items ≡ text.old.items ++ place_text warning.now) }
@@ -162,7 +157,6 @@ fn push_place(text: &mut Vec<u8>, warning: &Warning) -> Result<(), AllocError>
     push(text, ": ")
 }
 
-/// Appends the line of a warning.
 #[tactic(auto, unfolding(crate::specs::Warnings::line_of))]
 pub(crate) fn push_line(text: &mut Vec<u8>, warning: &Warning) -> Result<(), AllocError>
     ensures { OnOk result (text.new.items ≡ text.old.items ++ line_of warning.now) }

@@ -1,4 +1,4 @@
-//! What a job is looked at with: the names in its folder, and which events come.
+//! The names in a folder with which a job is checked, and which events may occur.
 ghost use Rattle.std.specs.Prelude.{◌≡◌, ◌++◌, IfOk, OnOk, codes, option_copied};
 ghost use Rattle.std.specs.List.{flat_map};
 ghost use Rattle.up_conf.specs.Folders.{without_ending};
@@ -11,7 +11,7 @@ use std::alloc::{AllocError, Global};
 use up_conf::{File, JobDef};
 use up_text::{Items, Text};
 
-/// What a job is looked at with.
+/// The names with which a job is checked.
 #[derive(Drop)]
 pub(crate) struct World<'a> {
     /// The jobs of the folder.
@@ -20,9 +20,9 @@ pub(crate) struct World<'a> {
     pub(crate) commanded: Names<'a>,
     /// Those that can be started.
     pub(crate) started: Names<'a>,
-    /// The events that somebody gives besides the init.
+    /// The events that something other than init emits.
     pub(crate) given: Names<'a>,
-    /// The keys that stand in jobs, but for what they export.
+    /// The keys that occur in jobs, except for those that they export.
     pub(crate) keys: Names<'a>,
 }
 
@@ -35,7 +35,7 @@ fn push_texts(texts: &mut Vec<Text>, others: &[Text]) -> Result<(), AllocError>
     Ok(())
 }
 
-// Appends the events that a stanza declares.
+// Appends the events that an `emits` stanza declares.
 fn push_declared(events: &mut Vec<Text>, head: &Head) -> Result<(), AllocError>
     ensures { OnOk result (events.new.items ≡ events.old.items ++ declared_by head.now) }
 {
@@ -51,7 +51,6 @@ fn push_declared(events: &mut Vec<Text>, head: &Head) -> Result<(), AllocError>
     }
 }
 
-// Appends the events that stanzas declare.
 fn push_all_declared(events: &mut Vec<Text>, sheet: &[Head]) -> Result<(), AllocError>
     ensures { OnOk result (events.new.items ≡ events.old.items ++ flat_map declared_by sheet.now) }
 {
@@ -61,7 +60,6 @@ fn push_all_declared(events: &mut Vec<Text>, sheet: &[Head]) -> Result<(), Alloc
     Ok(())
 }
 
-// Appends the events that a job declares.
 fn push_declared_of(events: &mut Vec<Text>, files: &[File], job: &JobDef) -> Result<(), AllocError>
     ensures { OnOk result (events.new.items ≡ events.old.items ++ declared_of files.now job.now) }
 {
@@ -84,14 +82,14 @@ pub(crate) fn declared_in(
     Ok(Items::new(events))
 }
 
-/// Whether jobs make an event themselves.
+/// Whether init emits the event for a job by itself.
 pub(crate) fn is_job_event(event: &str) -> bool
     ensures { result ≡ is_job_event event.now }
 {
     event == "starting" || event == "started" || event == "stopping" || event == "stopped"
 }
 
-// Whether something gives an event of this name.
+// Whether the event may occur: `startup`, a job's event, or one that is emitted.
 #[tactic(auto, unfolding(crate::specs::Events::comes))]
 fn comes(world: &World<'_>, event: &str) -> bool
     ensures { result ≡ comes (scene_of world.now) event.now }
@@ -99,14 +97,14 @@ fn comes(world: &World<'_>, event: &str) -> bool
     event == "startup" || is_job_event(event) || world.given.has(event.as_bytes())
 }
 
-// The event of whose failure an event tells.
+// The event `EVENT` of `EVENT/failed`.
 fn failed_event(event: &str) -> Option<&str>
     ensures { option_copied result ≡ without_ending (codes "/failed") event.now }
 {
     event.strip_suffix("/failed")
 }
 
-/// Whether an event may come.
+/// Whether an event, or the one whose failure it reports, may occur.
 pub(crate) fn is_known(world: &World<'_>, event: &str) -> bool
     ensures { result ≡ is_known (scene_of world.now) event.now }
 {

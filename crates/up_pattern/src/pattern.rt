@@ -8,7 +8,7 @@ ghost use Rattle.up_pattern.specs.Matching.{First, Kept, AdmitLone, admits_lone,
 
 pub mod laws;
 
-/// A byte of a pattern that stands bare or after a backslash, or the backslash at the pattern's end.
+/// A symbol of a pattern: a bare byte, a byte after a backslash, or a backslash at the pattern's end.
 #[derive(Clone, Copy)]
 enum Symbol {
     Bare(u8),
@@ -27,7 +27,7 @@ enum Part<'a> {
     Class,
 }
 
-/// How a set ends: it has a class, it isn't closed, or this stands after its `]`.
+/// How a set ends: it contains a class, it isn't closed, or it is closed and this is the rest after its `]`.
 #[derive(Clone, Copy)]
 enum SetEnd<'a> {
     Class,
@@ -35,7 +35,7 @@ enum SetEnd<'a> {
     Closed(&'a [u8]),
 }
 
-/// An item, what stands after it, and whether a set may be ahead: after one that isn't closed, none is.
+/// An item, the rest after it, and whether a set may follow: after one that isn't closed, none does.
 #[derive(Clone, Copy)]
 struct Reading<'a> {
     part: Part<'a>,
@@ -43,7 +43,7 @@ struct Reading<'a> {
     ahead: bool,
 }
 
-/// A set as it was read: the item of this index among those of a text, what stands after it, and whether it is known to admit each byte.
+/// A set that was read: the index of its item in the text, the rest after it, and for each byte whether it matches, if known.
 #[derive(Clone, Copy)]
 struct Memo<'a> {
     index: usize,
@@ -52,7 +52,7 @@ struct Memo<'a> {
     known: [Option<bool>; 256],
 }
 
-/// A text of which at most so many bytes stand after the last `]`, and whose sets have no class.
+/// A text with at most `unclosed` bytes after the last `]`, whose sets contain no class.
 #[derive(Clone, Copy)]
 struct Segment<'a> {
     text: &'a [u8],
@@ -60,7 +60,7 @@ struct Segment<'a> {
     ghost settled: { Settled unclosed text.now },
 }
 
-/// What the items up to the next run of any bytes come to: they are the last and match, they fail, or this is left after the run.
+/// The outcome of the items up to the next `*`: they are the last and match, they fail, or this is left after the `*`.
 #[derive(Clone, Copy)]
 enum Outcome<'a, 'b> {
     Matches,
@@ -84,7 +84,7 @@ fn next_symbol(text: &[u8]) -> Option<(Symbol, &[u8])>
     }
 }
 
-// What stands after this byte, which is no backslash, where the text begins with it.
+// The rest after this byte, which isn't a backslash, or `None` if the text doesn't begin with it.
 #[tactic(auto, using(crate::proofs::SetReading::firsts))]
 fn strip(text: &[u8], byte: u8) -> Option<&[u8]>
     requires { byte ≢ 92 }
@@ -137,7 +137,7 @@ fn is_close(symbol: Symbol) -> bool
     }
 }
 
-// How many bytes stand after the pattern's last bare `]`, all of them if it has none. No set is closed among these bytes.
+// The number of bytes after the pattern's last bare `]`, all of them if it has none. No set is closed among these bytes.
 #[tactic(auto, using(crate::proofs::Unclosed::unclosed_lengths))]
 fn unclosed_length(pattern: &[u8]) -> usize
     ensures { result ≡ unclosed_width (symbols pattern.now) }
@@ -163,14 +163,14 @@ fn byte_of(symbol: Symbol) -> u8
     }
 }
 
-// Whether this symbol of a set begins a class, with what stands after it.
+// Whether this symbol of a set, followed by these bytes, begins a class.
 fn begins_class(symbol: Symbol, beyond: &[u8]) -> bool
     ensures { result ≡ (is_open symbol && begins is_class_mark (symbols beyond.now)) }
 {
     is_open(symbol) && begins_class_mark(beyond)
 }
 
-// How the set ends that begins with these bytes.
+// How the set that begins with these bytes ends.
 #[tactic(auto, using(crate::proofs::SetReading::set_ends))]
 fn set_end(set: &[u8]) -> SetEnd<'_>
     ensures { EndsSo result set.now }
@@ -188,7 +188,7 @@ fn set_end(set: &[u8]) -> SetEnd<'_>
     SetEnd::Open
 }
 
-// The last byte of the range that begins with this item, and what stands after it.
+// The last byte of the range that begins with this item, and the rest after it.
 #[tactic(auto, using(crate::proofs::SetReading::range_ends))]
 fn range_end(low: u8, beyond: &[u8]) -> (u8, &[u8])
     ensures shorter { length result.1.now ≤ length beyond.now }
@@ -212,7 +212,7 @@ fn is_between(low: u8, byte: u8, high: u8) -> bool
     low <= byte && byte <= high
 }
 
-// Whether an item of the set that begins with these bytes has this one.
+// Whether the set that begins with these bytes contains this byte.
 #[tactic(auto, using(crate::proofs::SetReading::amongs))]
 fn is_among(set: &[u8], byte: u8) -> bool
     ensures { result ≡ is_among byte (ranges (body (symbols set.now))) }
@@ -244,7 +244,7 @@ fn lone_part(symbol: Symbol) -> Part<'static>
     }
 }
 
-// The item that a `[` before this text begins, whose first item of the set this is.
+// The item that a `[` before this text begins; `set` is the text from the first item of the set on.
 fn read_inner<'a>(text: &'a [u8], inverted: bool, set: &'a [u8]) -> Reading<'a>
     requires inverted { inverted ≡ begins is_not (symbols text.now) }
     requires inner { symbols set.now ≡ inner (symbols text.now) }
@@ -281,7 +281,7 @@ fn read_set(text: &[u8]) -> Reading<'_>
     }
 }
 
-// The first item of a text. If no sets are ahead, each `[` stands for itself.
+// The first item of a text. If no sets follow, each `[` is an ordinary byte.
 #[tactic(auto, using(crate::proofs::ItemReading::readings))]
 fn read(text: &[u8], ahead: bool) -> Option<Reading<'_>>
     requires { ahead ≡ false → IsFlat text.now }
@@ -302,7 +302,7 @@ fn read(text: &[u8], ahead: bool) -> Option<Reading<'_>>
     })
 }
 
-// The first item of a text of which at most this many bytes stand after the last `]`, and whose sets have no class.
+// The first item of a text with at most this many bytes after the last `]`, whose sets contain no class.
 #[tactic(auto, using(crate::proofs::Unclosed::settlings))]
 fn read_settled(text: &[u8], unclosed: usize) -> Option<Reading<'_>>
     requires { Settled unclosed text.now }
@@ -353,14 +353,14 @@ fn is_class(part: &Part) -> bool
     }
 }
 
-// Of no byte is known yet whether an item admits it.
+// For no byte is it known yet whether an item matches it.
 fn nothing_known() -> [Option<bool>; 256]
     ensures { result ≡ replicate 256 None }
 {
     [None; 256]
 }
 
-// Whether the item admits the byte, by what is known of it so far. A set is gone through once for each byte that it is asked for.
+// Whether the item matches the byte. The answer is kept, so a set is searched once for each byte.
 fn recall(known: &mut [Option<bool>], part: &Part, byte: u8) -> bool
     requires room { length known.old ≡ 256 }
     requires knows { Knows known.old (item_of_part part.now) }
@@ -379,7 +379,7 @@ fn recall(known: &mut [Option<bool>], part: &Part, byte: u8) -> bool
     }
 }
 
-// How many bytes a set has with its `]`, and none for any other item. Which set is kept changes how long a match takes, never its answer.
+// The length of a set in bytes with its `]`, and 0 for any other item. Which set is kept changes how long a match takes, never its answer.
 fn set_width(part: &Part, rest: &[u8]) -> usize {
     match part {
         Part::Among { set, .. } => set.len().saturating_sub(rest.len()),
@@ -391,7 +391,7 @@ fn set_width(part: &Part, rest: &[u8]) -> usize {
     }
 }
 
-// The item of this index, with which the rest of the text begins: as it is kept, or else as it is read.
+// The item of this index, with which the rest of the text begins: the kept one, or else it is read.
 fn read_kept<'a>(
     memo: &Option<Memo<'a>>,
     segment: &Segment<'a>,
@@ -420,7 +420,7 @@ fn read_kept<'a>(
     read_settled(rest, segment.unclosed)
 }
 
-// How many bytes the set has that is kept, and none where none is.
+// The length of the kept set in bytes, 0 if none is kept.
 fn kept_width(memo: &Option<Memo<'_>>) -> usize {
     match memo {
         Some(kept) => set_width(&kept.part, kept.rest),
@@ -428,7 +428,7 @@ fn kept_width(memo: &Option<Memo<'_>>) -> usize {
     }
 }
 
-// Keeps a set that is longer than the one that is kept.
+// Keeps this set if it is longer than the kept one.
 fn keep<'a>(memo: &mut Option<Memo<'a>>, segment: &Segment<'a>, index: usize, reading: &Reading<'a>)
     requires kept { ForSome memo.old (Kept segment.now.unclosed segment.now.text.now) }
     requires place { drop index (all_items segment.now.text.now) ≡ item_of_part reading.now.part
@@ -447,7 +447,7 @@ fn keep<'a>(memo: &mut Option<Memo<'a>>, segment: &Segment<'a>, index: usize, re
     }
 }
 
-// Whether the item of this index, which was read so, admits the byte.
+// Whether the item of this index, which was read as `reading`, matches the byte.
 fn admits_kept<'a>(
     memo: &mut Option<Memo<'a>>,
     segment: &Segment<'a>,
@@ -472,7 +472,7 @@ fn admits_kept<'a>(
     admits(&reading.part, byte)
 }
 
-// What stands after the first byte, if the item of this index admits it.
+// The rest after the first byte, or `None` if the item of this index doesn't match it.
 fn take_byte<'a, 'b>(
     memo: &mut Option<Memo<'a>>,
     segment: &Segment<'a>,
@@ -501,15 +501,15 @@ fn take_byte<'a, 'b>(
     }
 }
 
-// Whether this byte of a text is an item by itself, of one byte, that admits the other.
+// Whether this byte of a pattern is an item of one byte by itself, and matches the other byte.
 fn admits_lone(byte: u8, other: u8) -> bool
     ensures { result ≡ admits_lone byte other }
 {
     byte == b'?' || (byte == other && byte != b'*' && byte != b'[' && byte != b'\\')
 }
 
-// How many bytes of the text, from the first on, are items by themselves and admit the bytes at their places. To compare them takes far
-// less time than to read one item after another. How many are found changes how long a match takes, never its answer.
+// The number of bytes at the start of the text that are items by themselves and match the bytes at the same positions. Comparing them takes
+// far less time than reading one item after another. The number changes how long a match takes, never its answer.
 fn lone_length(text: &[u8], bytes: &[u8]) -> usize
     ensures text { result ≤ length text.now }
     ensures bytes { result ≤ length bytes.now }
@@ -524,7 +524,7 @@ fn lone_length(text: &[u8], bytes: &[u8]) -> usize
     both
 }
 
-// Takes one byte for each item up to a run of any bytes. After an item that was read, those that are bytes by themselves are compared at once.
+// Takes one byte for each item up to a `*`. After an item that was read, those that are bytes by themselves are compared at once.
 #[tactic(auto, using(crate::proofs::Matches::takings))]
 fn take_items<'a, 'b>(
     memo: &mut Option<Memo<'a>>,
@@ -561,8 +561,8 @@ fn take_items<'a, 'b>(
     }
 }
 
-// Looks for the first place at which this item, and the items of the text after it, go on up to the next run. The item stands after a run,
-// so it is read once and not again at each place.
+// Looks for the first position where this item and the items of the text after it match up to the next `*`. The item comes after a `*`, so
+// it is read once and not again at each position.
 fn search<'a, 'b>(part: &Part, text: &'a [u8], unclosed: usize, bytes: &'b [u8]) -> Outcome<'a, 'b>
     requires one { is_run (item_of_part part.now) ≡ false }
     requires settled { Settled unclosed text.now }
@@ -585,8 +585,8 @@ fn search<'a, 'b>(part: &Part, text: &'a [u8], unclosed: usize, bytes: &'b [u8])
     Outcome::Fails
 }
 
-// Whether the text's items match some end of the bytes. Only the last run of any bytes is ever made longer: if the items
-// after it fail, a longer run before it wouldn't help.
+// Whether the text's items match some end of the bytes. Only the last `*` is ever extended: if the items after it fail, a longer match of
+// an earlier `*` wouldn't help.
 fn matches_end(text: &[u8], unclosed: usize, bytes: &[u8]) -> bool
     requires { Settled unclosed text.now }
     ensures { result ≡ star_from (items_match (all_items text.now)) bytes.now }
@@ -613,7 +613,7 @@ fn matches_end(text: &[u8], unclosed: usize, bytes: &[u8]) -> bool
     true
 }
 
-/// Whether no set of the pattern, closed or not, has a class: a `[` before `:`, `.` or `=`.
+/// Whether no set of the pattern, closed or not, contains a class: a `[` before `:`, `.` or `=`.
 pub fn supported(pattern: &[u8]) -> bool
     ensures { result ≡ supported pattern.now }
 {
@@ -629,8 +629,8 @@ pub fn supported(pattern: &[u8]) -> bool
     true
 }
 
-/// Whether the pattern matches all of the bytes, as fnmatch(3) says, with `/` and a leading dot as bytes like any other. Of its
-/// sets only those without classes are read: a pattern that isn't `supported` matches nothing.
+/// Whether the pattern matches all of the bytes, by fnmatch(3), with `/` and a leading dot as ordinary bytes. Classes in sets aren't
+/// supported: a pattern that isn't `supported` matches nothing.
 pub fn glob(pattern: &[u8], bytes: &[u8]) -> bool
     ensures { result ≡ glob pattern.now bytes.now }
 {

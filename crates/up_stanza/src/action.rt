@@ -1,20 +1,19 @@
-//! What a process runs.
+//! The command or script that a process runs.
 ghost use Rattle.std.specs.Prelude.{◌≡◌, IfOk};
 
 use std::alloc::{AllocError, Global};
 use up_text::{Items, Text, copy_texts};
 
-/// What a process runs (init(5), `exec` and `script`).
+/// The command or script that a process runs (init(5), `exec` and `script`).
 #[derive(Debug, Drop)]
 pub enum Action {
     /// These words, the first of which names the program.
     Words(Items<Text>),
-    /// What the shell gets: `/bin/sh -e -c TEXT`.
+    /// The argument of the shell: `/bin/sh -e -c TEXT`.
     Shell(Text),
 }
 
 impl Action {
-    /// An equal value in memory of its own.
     pub fn copy(&self, alloc: Global) -> Result<Self, AllocError>
         ensures { IfOk result (λ copied. copied ≡ self.now) }
     {

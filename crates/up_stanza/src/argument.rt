@@ -1,4 +1,4 @@
-//! Reads what a token says that is one of a list of arguments.
+//! Reads single tokens of a list of arguments.
 ghost use Rattle.std.specs.Prelude.{◌≡◌, IfOk, OnErr, true, is_some, option_map};
 ghost use Rattle.up_text.specs.Names.{is_key};
 ghost use Rattle.std.specs.Result.{result_ok};
@@ -17,7 +17,6 @@ use std::alloc::{AllocError, Global};
 use up_text::env::{is_key, split_pair};
 use up_text::{Text, is_expandable};
 
-/// The key that a text is.
 pub(crate) fn read_key(alloc: Global, text: &str) -> Result<Result<Text, FaultCode>, AllocError>
     ensures read { IfOk result (λ read. result_ok read ≡ key_in text.now) }
     ensures memory { OnErr result (is_some (key_in text.now) ≡ true) }
@@ -29,7 +28,6 @@ pub(crate) fn read_key(alloc: Global, text: &str) -> Result<Result<Text, FaultCo
     Ok(Ok(key))
 }
 
-// A value in memory of its own, if there is one.
 fn copy_value(alloc: Global, value: Option<&str>) -> Result<Option<Text>, AllocError>
     ensures { IfOk result (λ copied. copied ≡ option_map (λ text. text.now) value.entry) }
 {
@@ -42,7 +40,7 @@ fn copy_value(alloc: Global, value: Option<&str>) -> Result<Option<Text>, AllocE
     }
 }
 
-// The key with this value, if it is one.
+// Fails with `BadName` if the key isn't one.
 fn setting_with(
     alloc: Global,
     key: &str,
@@ -60,7 +58,7 @@ fn setting_with(
     Ok(Ok(Setting { key, value }))
 }
 
-/// The setting KEY=VALUE or KEY that a text says.
+/// Reads KEY=VALUE or KEY.
 #[tactic(auto, unfolding(crate::specs::Settings::setting_in))]
 pub(crate) fn read_setting(
     alloc: Global,
@@ -75,7 +73,6 @@ pub(crate) fn read_setting(
     }
 }
 
-// The status of this number.
 fn read_status(text: &str) -> Result<Exit, FaultCode>
     ensures { result_ok result ≡ option_map exit.Status (number_in 0 255 text.now) }
 {
@@ -85,7 +82,7 @@ fn read_status(text: &str) -> Result<Exit, FaultCode>
     }
 }
 
-/// The normal exit that a text says: a status, or the name of a signal.
+/// Reads a normal exit: a status from 0 to 255, or the name of a signal.
 pub(crate) fn read_exit(text: &str) -> Result<Exit, FaultCode>
     ensures { result_ok result ≡ exit_in text.now }
 {
@@ -98,7 +95,6 @@ pub(crate) fn read_exit(text: &str) -> Result<Exit, FaultCode>
     }
 }
 
-/// The signal that a text says.
 pub(crate) fn as_signal(text: &str) -> Result<Signal, FaultCode>
     ensures { result_ok result ≡ signal_in text.now }
 {
@@ -108,7 +104,7 @@ pub(crate) fn as_signal(text: &str) -> Result<Signal, FaultCode>
     }
 }
 
-/// The number up to this one that a text says.
+/// Reads a number from 0 to `most`.
 pub(crate) fn as_number(text: &str, most: u32) -> Result<u32, FaultCode>
     ensures { result_ok result ≡ number_in 0 most text.now }
 {
@@ -118,7 +114,6 @@ pub(crate) fn as_number(text: &str, most: u32) -> Result<u32, FaultCode>
     }
 }
 
-/// The name of an instance that a text says.
 pub(crate) fn read_instance(
     alloc: Global,
     text: &str,
@@ -133,7 +128,7 @@ pub(crate) fn read_instance(
     Ok(Ok(instance))
 }
 
-// Why a text is no console.
+// The fault of a text that isn't a console: `owner` is known, but not supported.
 fn no_console(text: &str) -> FaultCode {
     if text == "owner" {
         FaultCode::NotInProfile
@@ -142,7 +137,7 @@ fn no_console(text: &str) -> FaultCode {
     }
 }
 
-/// Where a text says that output goes.
+/// Reads an argument of `console`.
 pub(crate) fn read_console(text: &str) -> Result<Console, FaultCode>
     ensures { result_ok result ≡ console_in text.now }
 {

@@ -1,4 +1,4 @@
-//! Reads what a command's text says.
+//! Reads the text of a command.
 ghost use Rattle.std.specs.Prelude.{◌≡◌, ◌<◌, ◌++◌, IfOk, OnErr, length, codes};
 ghost use Rattle.std.specs.List.{list_any};
 ghost use Rattle.std.specs.Result.{result_ok};
@@ -11,10 +11,10 @@ use crate::fault::FaultCode;
 use std::alloc::{AllocError, Global};
 use up_text::{Items, Text, next_word};
 
-/// The most words that a command has.
+/// The greatest number of words of a command.
 const MAX_WORDS: usize = 65_535;
 
-/// Whether a shell reads the byte as more than itself.
+/// Whether the byte is special to a shell.
 #[tactic(auto, unfolding(crate::specs::Actions::is_shell))]
 pub fn is_shell(byte: u8) -> bool
     ensures { result ≡ is_shell byte }
@@ -45,14 +45,13 @@ pub fn is_shell(byte: u8) -> bool
     )
 }
 
-/// Whether a shell reads one of the bytes as more than itself.
+/// Whether one of the bytes is special to a shell.
 pub fn has_shell(bytes: &[u8]) -> bool
     ensures { result ≡ list_any is_shell bytes.now }
 {
     bytes.iter().any(|byte| is_shell(*byte))
 }
 
-// The words of a text, as blanks separate them.
 #[tactic(auto, using(crate::proofs::Words::words_more, crate::proofs::Words::words_end))]
 fn split_words(alloc: Global, text: &str) -> Result<Items<Text>, AllocError>
     ensures { IfOk result (λ words. words ≡ words_in text.now) }
@@ -70,7 +69,6 @@ fn split_words(alloc: Global, text: &str) -> Result<Items<Text>, AllocError>
     Ok(Items::new(words))
 }
 
-// A command of these words.
 fn as_command(words: Items<Text>) -> Result<Action, FaultCode>
     ensures { result_ok result ≡ words_action words }
 {
@@ -80,7 +78,7 @@ fn as_command(words: Items<Text>) -> Result<Action, FaultCode>
     Ok(Action::Words(words))
 }
 
-// The shell runs the command of this text.
+// The shell runs `exec TEXT`.
 fn by_shell(alloc: Global, text: &str) -> Result<Action, AllocError>
     ensures { IfOk result (λ action. action ≡ Shell (codes "exec " ++ text.now)) }
 {
@@ -89,7 +87,7 @@ fn by_shell(alloc: Global, text: &str) -> Result<Action, AllocError>
     Ok(Action::Shell(Text::new(shell)))
 }
 
-/// What the text of a command says.
+/// Reads the text of a command. The shell runs it if it contains a byte that is special to a shell.
 #[tactic(auto, unfolding(crate::specs::Actions::action_of))]
 pub(crate) fn read_command(
     alloc: Global,

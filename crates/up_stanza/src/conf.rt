@@ -18,7 +18,7 @@ use up_text::{Lexer, as_text};
 /// The longest file that is read, in bytes.
 const MAX_LEN: usize = 1_048_576;
 
-/// The most keys that a file sets, and that it exports.
+/// The greatest number of keys that a file sets, and of those that it exports.
 const MAX_KEYS: usize = 30_000;
 
 fn keys_set(stanza: &Stanza) -> usize
@@ -39,7 +39,6 @@ fn keys_exported(stanza: &Stanza) -> usize
     }
 }
 
-// Whether the stanzas set few enough keys.
 #[tactic(auto, using(crate::proofs::Totals::total_more, crate::proofs::Totals::total_over))]
 fn sets_few(stanzas: &[Stanza]) -> bool
     ensures { result ≡ nat_le (total keys_set stanzas.now) MAX_KEYS }
@@ -55,7 +54,6 @@ fn sets_few(stanzas: &[Stanza]) -> bool
     true
 }
 
-// Whether the stanzas export few enough keys.
 #[tactic(auto, using(crate::proofs::Totals::total_more, crate::proofs::Totals::total_over))]
 fn exports_few(stanzas: &[Stanza]) -> bool
     ensures { result ≡ nat_le (total keys_exported stanzas.now) MAX_KEYS }
@@ -77,14 +75,14 @@ fn has_few_keys(stanzas: &[Stanza]) -> bool
     sets_few(stanzas) && exports_few(stanzas)
 }
 
-// A fault of the whole file.
+// A fault of the whole file: it is reported at line 1.
 fn at_first_line(code: FaultCode) -> ConfFault
     ensures { result ≡ record { line = 1; code = code } }
 {
     ConfFault { line: 1, code }
 }
 
-// The stanzas of a text, or the fault.
+// The stanzas of a text, or the fault; too many keys are reported first.
 fn read_text(alloc: Global, text: &str) -> Result<Result<Stanzas, ConfFault>, AllocError>
     requires { length text.now ≤ MAX_LEN }
     ensures { IfOk result (λ read. IsConf (within_limits (stanzas_of (start text.now))) read) }
@@ -99,7 +97,7 @@ fn read_text(alloc: Global, text: &str) -> Result<Result<Stanzas, ConfFault>, Al
     }
 }
 
-// The text of a file's bytes, if they may be read.
+// The text of a file's bytes; fails with `TooLarge`, or with `NotText` for a byte 0 or bytes that aren't UTF-8.
 #[tactic(auto, unfolding(crate::specs::Confs::is_readable))]
 fn text_of(bytes: &[u8]) -> Result<&str, FaultCode>
     ensures test { MatchResult result (λ text. is_readable bytes.now ≡ true) (λ code. is_readable bytes.now
@@ -119,7 +117,7 @@ fn text_of(bytes: &[u8]) -> Result<&str, FaultCode>
     }
 }
 
-/// The stanzas of a file, or why it has none; an `AllocError` if memory is refused.
+/// The stanzas of a file, or its fault; an `AllocError` if memory runs out.
 #[tactic(auto, unfolding(crate::specs::Confs::conf_of))]
 pub fn read_bytes(alloc: Global, bytes: &[u8]) -> Result<Result<Stanzas, ConfFault>, AllocError>
     ensures { IfOk result (λ read. IsConf (conf_of bytes.now) read) }
@@ -130,8 +128,8 @@ pub fn read_bytes(alloc: Global, bytes: &[u8]) -> Result<Result<Stanzas, ConfFau
     }
 }
 
-/// The stanzas of a file. Every fault but `Memory` comes only if the file isn't well formed, and its line is that of the first
-/// unreadable stanza, or 1 if the whole file is at fault.
+/// The stanzas of a file. Every fault except `Memory` is reported only if the file isn't well formed, and its line is that of the first
+/// unreadable stanza, or 1 if the fault is of the whole file.
 #[tactic(auto, using(crate::proofs::Conforming::conf_is_not))]
 pub fn read_conf(alloc: Global, bytes: &[u8]) -> Result<Stanzas, ConfFault>
     ensures read { IfOk result (λ stanzas. conf_of bytes.now ≡ Ok stanzas) }

@@ -1,10 +1,10 @@
-//! How a process may end.
+//! The ways in which a process may end.
 ghost use Rattle.std.specs.Prelude.{◌≡◌};
 ghost use Rattle.up_stanza.specs.Exits.{same_exit};
 
 use crate::signal::Signal;
 
-/// An end of the main process that is normal (init(5), `normal exit`).
+/// An end of the main process that counts as normal (init(5), `normal exit`).
 #[derive(Clone, Copy, Debug)]
 pub enum Exit {
     Status(u8),
@@ -12,7 +12,6 @@ pub enum Exit {
 }
 
 impl Exit {
-    /// Whether the other is the same end.
     pub fn is(self, other: Exit) -> bool
         ensures { result ≡ same_exit self other }
     {

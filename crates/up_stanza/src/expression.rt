@@ -13,7 +13,7 @@ use std::alloc::{AllocError, Global};
 use up_expr::{Condition, ExprFault, parse_expr};
 use up_text::{Lexer, Token};
 
-// Whether the token `on` comes next; the lexer then stands after it.
+// Reads the token `on`; on success the lexer's position is after it.
 fn read_on(alloc: Global, lexer: &mut Lexer) -> Result<Result<(), FaultCode>, AllocError>
     ensures { IfOk result (λ found. HasOn (reading lexer.old) found lexer.new) }
 {
@@ -30,7 +30,6 @@ fn read_on(alloc: Global, lexer: &mut Lexer) -> Result<Result<(), FaultCode>, Al
     }
 }
 
-// The code of an expression's fault.
 fn code_of(fault: ExprFault) -> FaultCode {
     match fault {
         ExprFault::BadExpression => FaultCode::BadExpression,
@@ -49,7 +48,6 @@ fn is_memory(fault: ExprFault) -> bool
     matches!(fault, ExprFault::Memory)
 }
 
-// The expression that the tokens write.
 fn parse(alloc: Global, tokens: &[Token]) -> Result<Result<Condition, FaultCode>, AllocError>
     ensures tree { IfOk result (λ tree. result_ok tree ≡ expression_in tokens.now) }
     ensures memory { OnErr result (is_some (expression_in tokens.now) ≡ true) }
@@ -65,7 +63,7 @@ fn parse(alloc: Global, tokens: &[Token]) -> Result<Result<Condition, FaultCode>
     }
 }
 
-// The expression up to the stanza's end, where parentheses are tokens.
+// The expression up to the stanza's end, with parentheses as tokens.
 fn read_tree(alloc: Global, lexer: &mut Lexer) -> Result<Result<Condition, FaultCode>, AllocError>
     ensures { IfOk result (λ tree. IsFound
         (without_parens (and_then_found expression_in
@@ -81,7 +79,6 @@ fn read_tree(alloc: Global, lexer: &mut Lexer) -> Result<Result<Condition, Fault
     }
 }
 
-/// The expression after the token `on`.
 pub(crate) fn read_expression(
     alloc: Global,
     lexer: &mut Lexer,

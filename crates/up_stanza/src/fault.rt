@@ -10,39 +10,39 @@ use thiserror::Error;
 /// Why a file isn't read.
 #[derive(Clone, Copy, Debug, PartialEq, Eq)]
 pub enum FaultCode {
-    /// A stanza is none that is known.
+    /// A stanza is unknown.
     UnknownStanza,
-    /// A stanza is known and not supported.
+    /// A stanza is known but not supported.
     NotInProfile,
     /// A token is missing.
     ExpectedToken,
-    /// A token is one too many.
+    /// There is a token too many.
     UnexpectedToken,
     /// A quote is still open at the end of the text.
     UnterminatedQuote,
     /// A block is still open at the end of the text.
     UnterminatedBlock,
-    /// A backslash stands at the end of the text.
+    /// The text ends with a backslash.
     TrailingBackslash,
     /// An expression of events isn't well formed.
     BadExpression,
-    /// A value stands before a key.
+    /// A positional value comes after a keyed one.
     ValueBeforeKey,
-    /// A number isn't well formed or out of range.
+    /// A number isn't well formed or is out of range.
     BadNumber,
-    /// A signal is none that is known.
+    /// A signal is unknown.
     BadSignal,
-    /// A name has a byte that it may not have.
+    /// A name contains a byte that isn't allowed.
     BadName,
     /// A pattern isn't well formed.
     BadPattern,
     /// An expansion isn't well formed.
     BadExpansion,
-    /// The bytes are no text.
+    /// The bytes aren't text.
     NotText,
     /// The file is too large.
     TooLarge,
-    /// Memory was refused. No file has this fault.
+    /// Out of memory. This isn't a fault of the file.
     Memory,
 }
 
@@ -55,7 +55,7 @@ impl fmt::Display for FaultCode {
 impl StdError for FaultCode {}
 
 impl FaultCode {
-    /// The number by which a report names this code.
+    /// The number of this code in a report.
     pub fn number(self) -> u8
         ensures { result ≡ number_of self }
     {

@@ -2,7 +2,7 @@
 ghost use Rattle.std.specs.Prelude.{◌≡◌};
 ghost use Rattle.up_stanza.specs.Kinds.{kind_of};
 
-/// A first token after which the arguments are the tokens up to the stanza's end. Several stanzas may begin with it, as with `kill`.
+/// A first token whose arguments are the tokens up to the stanza's end. Several stanzas may begin with it, as with `kill`.
 #[derive(Clone, Copy)]
 pub(crate) enum Listed {
     Description,
@@ -37,7 +37,7 @@ pub(crate) enum Kind {
     Stop,
 }
 
-/// The kind of stanza that a word begins.
+/// `None` if no stanza begins with this word.
 #[tactic(auto, unfolding(crate::specs::Kinds::kind_of))]
 pub(crate) fn kind_of(word: &str) -> Option<Kind>
     ensures { result ≡ kind_of word.now }

@@ -1,4 +1,4 @@
-//! What one job file says: its stanzas (init(5)).
+//! The contents of one job file: its stanzas (init(5)).
 #![tactic(auto)]
 
 pub mod action;

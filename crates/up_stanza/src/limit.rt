@@ -1,10 +1,10 @@
 //! How often a job is respawned.
 
-/// How often a job is respawned (init(5), `respawn limit`). Where one of the numbers is 0, there is no limit.
+/// How often a job is respawned (init(5), `respawn limit`). If one of the numbers is 0, there is no limit.
 #[derive(Clone, Copy, Debug)]
 pub struct Limit {
-    /// How many times.
+    /// The number of respawns.
     pub count: u32,
-    /// Within how many seconds.
+    /// The interval in seconds.
     pub interval: u32,
 }

@@ -1,4 +1,4 @@
-//! Reads what a stanza says whose arguments are the tokens up to its end.
+//! Reads stanzas whose arguments are the tokens up to the stanza's end.
 ghost use Rattle.std.specs.Prelude.{◌≡◌, IfOk, OnErr, is_ok, is_some, option_map, option_and_then, codes, true};
 ghost use Rattle.std.specs.Result.{result_ok};
 ghost use Rattle.up_stanza.specs.declared.listed.TheConstants.{MAX_COUNT, MAX_SECONDS};
@@ -21,13 +21,13 @@ use std::alloc::{AllocError, Global};
 use up_text::env::is_key;
 use up_text::{Items, Text};
 
-/// The most times that a job may be respawned within an interval.
+/// The greatest number of times that a job may be respawned within an interval.
 const MAX_COUNT: u32 = 65_535;
 
-/// The most seconds of an interval and of a timeout.
+/// The greatest number of seconds of an interval and of a timeout.
 const MAX_SECONDS: u32 = 2_147_483_647;
 
-// The one argument.
+// The only argument.
 fn single(texts: &[Text]) -> Result<&Text, FaultCode>
     ensures { option_map (λ text. text.now) (result_ok result) ≡ single texts.now }
 {
@@ -43,7 +43,6 @@ fn single(texts: &[Text]) -> Result<&Text, FaultCode>
     }
 }
 
-// A stanza without arguments.
 fn alone(stanza: Stanza, texts: &[Text]) -> Result<Stanza, FaultCode>
     ensures { result_ok result ≡ none stanza texts.now }
 {
@@ -54,7 +53,6 @@ fn alone(stanza: Stanza, texts: &[Text]) -> Result<Stanza, FaultCode>
     Err(FaultCode::UnexpectedToken)
 }
 
-// One or more arguments.
 fn one_or_more(texts: Items<Text>) -> Result<Items<Text>, FaultCode>
     ensures { result_ok result ≡ one_or_more texts }
 {
@@ -65,7 +63,6 @@ fn one_or_more(texts: Items<Text>) -> Result<Items<Text>, FaultCode>
     }
 }
 
-// The arguments after this word.
 fn after<'a>(texts: &'a [Text], word: &str) -> Result<&'a [Text], FaultCode>
     ensures { option_map (λ others. others.now) (result_ok result) ≡ after word.now texts.now }
 {
@@ -81,7 +78,6 @@ fn after<'a>(texts: &'a [Text], word: &str) -> Result<&'a [Text], FaultCode>
     }
 }
 
-// Whether all arguments are keys.
 fn are_keys(texts: &[Text]) -> bool
     ensures { result ≡ is_some (each key_in texts.now) }
 {
@@ -93,7 +89,7 @@ fn are_keys(texts: &[Text]) -> bool
     true
 }
 
-// Refuses arguments of which one is no normal exit.
+// Fails if one of the arguments isn't a normal exit.
 fn check_exits(texts: &[Text]) -> Result<(), FaultCode>
     ensures { is_ok result ≡ is_some (each exit_in texts.now) }
 {
@@ -103,7 +99,6 @@ fn check_exits(texts: &[Text]) -> Result<(), FaultCode>
     Ok(())
 }
 
-// The keys that all arguments are.
 fn read_each_key(
     alloc: Global,
     texts: &[Text],
@@ -120,7 +115,6 @@ fn read_each_key(
     Ok(Ok(Items::new(keys)))
 }
 
-// The normal exits that all arguments are.
 fn read_each_exit(
     alloc: Global,
     texts: &[Text],
@@ -137,7 +131,6 @@ fn read_each_exit(
     Ok(Ok(Items::new(exits)))
 }
 
-// One or more keys.
 fn read_keys(alloc: Global, texts: &[Text]) -> Result<Result<Items<Text>, FaultCode>, AllocError>
     ensures read { IfOk result (λ read. result_ok read ≡ some key_in texts.now) }
     ensures memory { OnErr result (is_some (some key_in texts.now) ≡ true) }
@@ -151,7 +144,6 @@ fn read_keys(alloc: Global, texts: &[Text]) -> Result<Result<Items<Text>, FaultC
     read_each_key(alloc, texts)
 }
 
-// One or more normal exits.
 fn read_exits(alloc: Global, texts: &[Text]) -> Result<Result<Items<Exit>, FaultCode>, AllocError>
     ensures read { IfOk result (λ read. result_ok read ≡ some exit_in texts.now) }
     ensures memory { OnErr result (is_some (some exit_in texts.now) ≡ true) }
@@ -165,7 +157,7 @@ fn read_exits(alloc: Global, texts: &[Text]) -> Result<Result<Items<Exit>, Fault
     read_each_exit(alloc, texts)
 }
 
-// `unlimited` as a limit.
+// Reads `unlimited`, the limit of 0 and 0.
 fn read_unlimited(text: &Text) -> Result<Limit, FaultCode>
     ensures { result_ok result ≡ unlimited text.now }
 {
@@ -179,7 +171,7 @@ fn read_unlimited(text: &Text) -> Result<Limit, FaultCode>
     }
 }
 
-// Why a text that something follows is no count: nothing may follow `unlimited`.
+// The fault of a text before another that isn't a count: nothing may follow `unlimited`.
 fn no_count(text: &Text) -> FaultCode {
     if text.is("unlimited") {
         FaultCode::UnexpectedToken
@@ -188,7 +180,6 @@ fn no_count(text: &Text) -> FaultCode {
     }
 }
 
-// A limit of a count and an interval.
 fn read_pair(count: &Text, interval: &Text) -> Result<Limit, FaultCode>
     ensures { result_ok result
         ≡ limit_by (number_in 0 MAX_COUNT count.now) (number_in 0 MAX_SECONDS interval.now) }
@@ -202,7 +193,7 @@ fn read_pair(count: &Text, interval: &Text) -> Result<Limit, FaultCode>
     }
 }
 
-// COUNT INTERVAL, or `unlimited`.
+// Reads COUNT INTERVAL, or `unlimited`.
 fn read_limit(texts: &[Text]) -> Result<Limit, FaultCode>
     ensures { result_ok result ≡ limit_of texts.now }
 {
@@ -221,7 +212,7 @@ fn read_limit(texts: &[Text]) -> Result<Limit, FaultCode>
     }
 }
 
-// `limit` and what it limits.
+// Reads `limit` and its arguments.
 fn read_respawn_limit(texts: &[Text]) -> Result<Stanza, FaultCode>
     ensures { result_ok result
         ≡ option_map RespawnLimit (option_and_then limit_of (after (codes "limit") texts.now)) }
@@ -235,7 +226,7 @@ fn read_respawn_limit(texts: &[Text]) -> Result<Stanza, FaultCode>
     }
 }
 
-// Nothing, or `limit` and what it limits.
+// Reads nothing, or `limit` and its arguments.
 fn read_respawn(texts: &[Text]) -> Result<Stanza, FaultCode>
     ensures { result_ok result ≡ respawn_of texts.now }
 {
@@ -246,7 +237,7 @@ fn read_respawn(texts: &[Text]) -> Result<Stanza, FaultCode>
     }
 }
 
-// How many seconds pass before a kill.
+// Reads the seconds before a kill.
 fn read_timeout(texts: &[Text]) -> Result<Stanza, FaultCode>
     ensures { result_ok result
         ≡ option_map KillTimeout (option_and_then (number_in 0 MAX_SECONDS) (single texts.now)) }
@@ -260,7 +251,6 @@ fn read_timeout(texts: &[Text]) -> Result<Stanza, FaultCode>
     }
 }
 
-// One signal.
 fn read_one_signal(texts: &[Text]) -> Result<Signal, FaultCode>
     ensures { result_ok result ≡ option_and_then signal_in (single texts.now) }
 {
@@ -270,7 +260,6 @@ fn read_one_signal(texts: &[Text]) -> Result<Signal, FaultCode>
     }
 }
 
-// The signal that kills.
 fn read_kill_signal(texts: &[Text]) -> Result<Stanza, FaultCode>
     ensures { result_ok result ≡ option_map KillSignal (option_and_then signal_in (single texts.now)) }
 {
@@ -280,7 +269,7 @@ fn read_kill_signal(texts: &[Text]) -> Result<Stanza, FaultCode>
     }
 }
 
-// `timeout` or `signal`, and which.
+// Reads `timeout` or `signal`, and its argument.
 fn read_kill(texts: &[Text]) -> Result<Stanza, FaultCode>
     ensures { result_ok result ≡ kill_of texts.now }
 {
@@ -298,7 +287,7 @@ fn read_kill(texts: &[Text]) -> Result<Stanza, FaultCode>
     }
 }
 
-// `signal`, and which.
+// Reads `signal` and its argument.
 fn read_reload(texts: &[Text]) -> Result<Stanza, FaultCode>
     ensures { result_ok result ≡ reload_of texts.now }
 {
@@ -311,7 +300,7 @@ fn read_reload(texts: &[Text]) -> Result<Stanza, FaultCode>
     }
 }
 
-// `exit`, and which.
+// Reads `exit` and its arguments.
 fn read_normal(alloc: Global, texts: &[Text]) -> Result<Result<Stanza, FaultCode>, AllocError>
     ensures { IfOk result (λ read. result_ok read ≡ normal_of texts.now) }
 {
@@ -324,7 +313,7 @@ fn read_normal(alloc: Global, texts: &[Text]) -> Result<Result<Stanza, FaultCode
     }
 }
 
-// One text without effect.
+// Reads one text, which has no effect.
 fn read_about(texts: &[Text]) -> Result<Result<Stanza, FaultCode>, AllocError>
     ensures read { IfOk result (λ read. result_ok read ≡ option_map About (single texts.now)) }
     ensures memory { OnErr result (is_some (single texts.now) ≡ true) }
@@ -338,7 +327,7 @@ fn read_about(texts: &[Text]) -> Result<Result<Stanza, FaultCode>, AllocError>
     }
 }
 
-// One setting.
+// Reads one KEY=VALUE or KEY.
 fn read_env(alloc: Global, texts: &[Text]) -> Result<Result<Stanza, FaultCode>, AllocError>
     ensures read { IfOk result (λ read. result_ok read
         ≡ option_map Env (option_and_then setting_in (single texts.now))) }
@@ -353,7 +342,6 @@ fn read_env(alloc: Global, texts: &[Text]) -> Result<Result<Stanza, FaultCode>, 
     }
 }
 
-// Keys that are exported.
 fn read_export(alloc: Global, texts: &[Text]) -> Result<Result<Stanza, FaultCode>, AllocError>
     ensures read { IfOk result (λ read. result_ok read ≡ option_map Export (some key_in texts.now)) }
     ensures memory { OnErr result (is_some (some key_in texts.now) ≡ true) }
@@ -364,7 +352,6 @@ fn read_export(alloc: Global, texts: &[Text]) -> Result<Result<Stanza, FaultCode
     }
 }
 
-// The name of an instance.
 fn read_instance_name(
     alloc: Global,
     texts: &[Text],
@@ -382,7 +369,7 @@ fn read_instance_name(
     }
 }
 
-// Why more or fewer words than one aren't where output goes: `console owner` isn't supported, whatever is after it.
+// The fault of `console` with more or fewer words than one: `console owner` isn't supported, whatever comes after it.
 fn no_output(texts: &[Text], code: FaultCode) -> FaultCode {
     match texts.first() {
         Some(text) => {
@@ -396,7 +383,6 @@ fn no_output(texts: &[Text], code: FaultCode) -> FaultCode {
     }
 }
 
-// Where output goes.
 fn read_console_name(texts: &[Text]) -> Result<Stanza, FaultCode>
     ensures { result_ok result ≡ option_map Console (option_and_then console_in (single texts.now)) }
 {
@@ -409,7 +395,6 @@ fn read_console_name(texts: &[Text]) -> Result<Stanza, FaultCode>
     }
 }
 
-// The folder of `chdir`.
 fn read_chdir(texts: &[Text]) -> Result<Result<Stanza, FaultCode>, AllocError>
     ensures { IfOk result (λ read. result_ok read ≡ option_map Chdir (single texts.now)) }
 {
@@ -422,7 +407,6 @@ fn read_chdir(texts: &[Text]) -> Result<Result<Stanza, FaultCode>, AllocError>
     }
 }
 
-// Events that are emitted.
 fn read_emits(texts: Items<Text>) -> Result<Stanza, FaultCode>
     ensures { result_ok result ≡ option_map Emits (one_or_more texts) }
 {
@@ -432,7 +416,7 @@ fn read_emits(texts: Items<Text>) -> Result<Stanza, FaultCode>
     }
 }
 
-/// What a stanza of this kind says with these arguments.
+/// Reads a stanza of this kind from its arguments.
 pub(crate) fn read_listed(
     alloc: Global,
     kind: Listed,

@@ -16,14 +16,13 @@ fn are_all_digits(bytes: &[u8]) -> bool
     bytes.iter().all(|byte| is_digit(*byte))
 }
 
-/// Whether the text is one or more digits.
 pub(crate) fn are_digits(text: &str) -> bool
     ensures { result ≡ are_digits text.now }
 {
     !text.is_empty() && are_all_digits(text.as_bytes())
 }
 
-// The number that digits write, if it has 64 bits.
+// `None` if the number doesn't fit in 64 bits.
 fn value_of(text: &str) -> Option<u64>
     ensures { result ≡ decimal_of text.now }
 {
@@ -36,7 +35,7 @@ fn value_of(text: &str) -> Option<u64>
     }
 }
 
-/// The number that a text writes in decimal digits, if it writes one from `low` to `high`.
+/// The decimal number that a text spells, or `None` if it isn't one from `low` to `high`.
 #[tactic(auto, unfolding(crate::specs::Numbers::number_in))]
 pub fn number_in(low: u64, high: u64, text: &str) -> Option<u64>
     ensures value { result ≡ number_in low high text.now }

@@ -21,7 +21,6 @@ use crate::statement::{Next, next_token, read_texts};
 use std::alloc::{AllocError, Global};
 use up_text::{Items, Lexer};
 
-// What the main process runs.
 fn as_main(read: Result<Action, FaultCode>) -> Result<Stanza, FaultCode>
     ensures { (found : Found actions.Action) (new : Place) → IsFound found read new
         → IsFound (map_found (Runs process.Main) found) result new }
@@ -32,7 +31,6 @@ fn as_main(read: Result<Action, FaultCode>) -> Result<Stanza, FaultCode>
     }
 }
 
-// A stanza of arguments.
 fn read_arguments(
     alloc: Global,
     kind: Listed,
@@ -47,7 +45,6 @@ fn read_arguments(
     }
 }
 
-// `start on`.
 fn read_start(alloc: Global, lexer: &mut Lexer) -> Result<Result<Stanza, FaultCode>, AllocError>
     ensures { IfOk result (λ stanza. IsFound (stanza_as kind.Start lexer.old) stanza lexer.new) }
 {
@@ -57,7 +54,6 @@ fn read_start(alloc: Global, lexer: &mut Lexer) -> Result<Result<Stanza, FaultCo
     }
 }
 
-// `stop on`.
 fn read_stop(alloc: Global, lexer: &mut Lexer) -> Result<Result<Stanza, FaultCode>, AllocError>
     ensures { IfOk result (λ stanza. IsFound (stanza_as kind.Stop lexer.old) stanza lexer.new) }
 {
@@ -67,7 +63,7 @@ fn read_stop(alloc: Global, lexer: &mut Lexer) -> Result<Result<Stanza, FaultCod
     }
 }
 
-// What a stanza of this kind says; the lexer then stands after it.
+// Reads a stanza of this kind; the lexer's position is then after it.
 fn read_kind(
     alloc: Global,
     kind: Kind,
@@ -94,7 +90,7 @@ fn read_kind(
     }
 }
 
-// Why a word begins no stanza.
+// The fault of a word that begins no stanza: some stanzas of init(5) aren't supported.
 fn no_kind(word: &str) -> FaultCode {
     match word {
         "expect"
@@ -111,7 +107,7 @@ fn no_kind(word: &str) -> FaultCode {
     }
 }
 
-/// What the stanza in front says; the lexer then stands after it.
+/// Reads the next stanza; the lexer's position is then after it.
 pub(crate) fn read_stanza(
     alloc: Global,
     lexer: &mut Lexer,
@@ -128,7 +124,7 @@ pub(crate) fn read_stanza(
     }
 }
 
-/// The stanzas that are left, up to the first unreadable one, and why and where that is unreadable.
+/// The remaining stanzas, up to the first unreadable one, and its fault and line.
 pub(crate) fn read_stanzas(
     alloc: Global,
     lexer: Lexer,

@@ -1,4 +1,4 @@
-//! Reads what a process runs.
+//! Reads the command or script that a process runs.
 ghost use Rattle.std.specs.Prelude.{◌≡◌, IfOk, OnErr, Some, is_some, true};
 ghost use Rattle.up_text.specs.Places.{reading};
 ghost use Rattle.up_text.specs.Scripts.{lines_of, script_in};
@@ -15,7 +15,7 @@ use crate::statement::{Next, next_token, read_command_text};
 use std::alloc::{AllocError, Global};
 use up_text::Lexer;
 
-// The action, if its stanza ends here.
+// Fails with `UnexpectedToken` if the stanza doesn't end here.
 fn read_end(
     alloc: Global,
     action: Action,
@@ -30,7 +30,7 @@ fn read_end(
     }
 }
 
-/// The command that is the rest of the stanza; the lexer then stands after its end.
+/// The command that is the rest of the stanza; the lexer's position is then after the stanza's end.
 pub(crate) fn read_exec(
     alloc: Global,
     lexer: &mut Lexer,
@@ -46,7 +46,7 @@ pub(crate) fn read_exec(
     }
 }
 
-// The script of the lines up to its end line, after which the lexer then stands.
+// The script up to its end line; the lexer's position is then after that line.
 fn read_lines(alloc: Global, lexer: &mut Lexer) -> Result<Result<Action, FaultCode>, AllocError>
     ensures script { IfOk result (λ action. IsFound
         (script_of lexer.old (script_in (lines_of lexer.old.rest))) action lexer.new) }
@@ -59,7 +59,7 @@ fn read_lines(alloc: Global, lexer: &mut Lexer) -> Result<Result<Action, FaultCo
     }
 }
 
-/// The script on the next lines; the lexer then stands after its end line.
+/// The script on the next lines; the lexer's position is then after its end line.
 pub(crate) fn read_script(
     alloc: Global,
     lexer: &mut Lexer,
@@ -73,7 +73,7 @@ pub(crate) fn read_script(
     }
 }
 
-// What a process runs: `exec` or `script`.
+// Reads `exec` or `script`.
 fn read_action(alloc: Global, lexer: &mut Lexer) -> Result<Result<Action, FaultCode>, AllocError>
     ensures { IfOk result (λ action. IsFound (action_at lexer.old) action lexer.new) }
 {
@@ -92,7 +92,7 @@ fn read_action(alloc: Global, lexer: &mut Lexer) -> Result<Result<Action, FaultC
     }
 }
 
-/// What this process runs.
+/// Reads `exec` or `script` after the name of the process.
 pub(crate) fn read_runs(
     alloc: Global,
     process: Process,

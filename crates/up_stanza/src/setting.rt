@@ -1,4 +1,4 @@
-//! What a job sets in its environment.
+//! The variables that a job sets in its environment.
 ghost use Rattle.std.specs.Prelude.{◌≡◌, IfOk};
 
 use std::alloc::AllocError;
@@ -8,7 +8,7 @@ use up_text::Text;
 #[derive(Debug, Drop)]
 pub struct Setting {
     pub key: Text,
-    /// Its value; without one it keeps the value that init has for it.
+    /// Its value; without one the key keeps init's own value.
     pub value: Option<Text>,
 }
 
@@ -22,7 +22,6 @@ fn copy_value(value: &Option<Text>) -> Result<Option<Text>, AllocError>
 }
 
 impl Setting {
-    /// An equal value in memory of its own.
     pub fn copy(&self) -> Result<Self, AllocError>
         ensures { IfOk result (λ copied. copied ≡ self.now) }
     {

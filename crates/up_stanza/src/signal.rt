@@ -44,14 +44,12 @@ const NAMES: [&str; 31] = [
 ];
 
 impl Signal {
-    /// HUP.
     pub fn hup() -> Self
         ensures { result ≡ hup }
     {
         Signal { number: HUP }
     }
 
-    /// TERM.
     pub fn term() -> Self
         ensures { result ≡ term }
     {
@@ -64,7 +62,7 @@ impl Signal {
         self.number
     }
 
-    /// The signal that a text says: a name, with or without `SIG`, or a number from 1 to 31.
+    /// Reads a name, with or without `SIG`, or a number from 1 to 31.
     pub fn read(text: &str) -> Option<Self>
         ensures { result ≡ signal_in text.now }
     {
@@ -76,7 +74,6 @@ impl Signal {
     }
 }
 
-// The text at a place, if there is one.
 fn text_at(texts: &[&'static str], place: usize) -> Option<&'static str>
     ensures { option_copied result ≡ slice_get (map (λ text. text.now) texts.now) place }
 {
@@ -86,14 +83,13 @@ fn text_at(texts: &[&'static str], place: usize) -> Option<&'static str>
     }
 }
 
-// The first place of a text, if it has one.
 fn place_of(texts: &[&str], text: &str) -> Option<usize>
     ensures { result ≡ position (λ known. bytes_eq known.now text.now) texts.now }
 {
     texts.iter().position(|known| *known == text)
 }
 
-/// The name of the signal with this number (signal(7)), if there is one.
+/// `None` if no signal has this number (signal(7)).
 #[tactic(auto, unfolding(crate::specs::Signals::name_of))]
 pub fn signal_name(number: u8) -> Option<&'static str>
     ensures { option_copied result ≡ name_of number }
@@ -104,7 +100,6 @@ pub fn signal_name(number: u8) -> Option<&'static str>
     text_at(&NAMES, number as usize - 1)
 }
 
-// The number of the signal with this name.
 #[tactic(auto, unfolding(crate::specs::Signals::number_of))]
 fn number_of(name: &str) -> Option<u8>
     ensures { result ≡ number_of name.now }
@@ -115,7 +110,6 @@ fn number_of(name: &str) -> Option<u8>
     }
 }
 
-// The name without the `SIG` that it may begin with.
 #[tactic(auto, unfolding(crate::specs::Signals::without_sig))]
 fn without_sig(name: &str) -> &str
     ensures { result.now ≡ without_sig name.now }
@@ -126,7 +120,7 @@ fn without_sig(name: &str) -> &str
     }
 }
 
-/// The signal of this name, with or without SIG.
+/// The name may begin with `SIG`.
 #[tactic(auto, using(crate::proofs::Signals::signal_numbers))]
 pub(crate) fn signal_named(text: &str) -> Option<Signal>
     ensures { result ≡ signal_named text.now }
@@ -137,7 +131,6 @@ pub(crate) fn signal_named(text: &str) -> Option<Signal>
     }
 }
 
-// The signal of this number.
 fn signal_numbered(text: &str) -> Option<Signal>
     ensures { result ≡ number_in 1 31 text.now }
 {

@@ -17,7 +17,7 @@ pub enum Console {
     Output,
 }
 
-/// What a stanza says (init(5)).
+/// A stanza (init(5)).
 #[derive(Drop)]
 pub enum Stanza {
     /// `description`, `author`, `version` or `usage`, and its text. It has no effect.

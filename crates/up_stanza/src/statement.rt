@@ -15,17 +15,16 @@ use up_text::{Items, Lexer, Text, TextFault, Token};
 /// More tokens than most expressions have.
 const MANY: usize = 16;
 
-/// What comes next in a stanza.
+/// The next item of a stanza.
 #[derive(Drop)]
 pub(crate) enum Next {
     Token(Token),
     /// The stanza's end.
     End,
-    /// A token that is refused.
+    /// A token with a fault.
     Refused(FaultCode),
 }
 
-// The code of a token's fault.
 fn code_of(fault: TextFault) -> FaultCode {
     match fault {
         TextFault::UnterminatedQuote => FaultCode::UnterminatedQuote,
@@ -36,7 +35,7 @@ fn code_of(fault: TextFault) -> FaultCode {
     }
 }
 
-/// What comes next; after a token or an end the lexer goes on.
+/// The next item; after a token or an end the lexer moves past it.
 #[tactic(auto, using(up_text::proofs::Statements::got_by, up_text::proofs::Statements::ended_by, up_text::proofs::Statements::fails_by, crate::proofs::Telling::lacks_by))]
 pub(crate) fn next_token(alloc: Global, lexer: &mut Lexer) -> Result<Next, AllocError>
     ensures next { IfOk result (Continues lexer.old lexer.new) }
@@ -50,7 +49,7 @@ pub(crate) fn next_token(alloc: Global, lexer: &mut Lexer) -> Result<Next, Alloc
     }
 }
 
-/// The tokens up to the stanza's end, after which the lexer then stands.
+/// The tokens up to the stanza's end; the lexer's position is then after it.
 pub(crate) fn read_statement(
     alloc: Global,
     lexer: &mut Lexer,
@@ -68,7 +67,7 @@ pub(crate) fn read_statement(
     Ok(Ok(Items::new(tokens)))
 }
 
-/// The texts of the tokens up to the stanza's end, after which the lexer then stands.
+/// The texts of the tokens up to the stanza's end; the lexer's position is then after it.
 pub(crate) fn read_texts(
     alloc: Global,
     lexer: &mut Lexer,
@@ -86,7 +85,7 @@ pub(crate) fn read_texts(
     Ok(Ok(Items::new(texts)))
 }
 
-/// The text of a command; the lexer then stands at the stanza's end.
+/// The text of a command; the lexer's position is then at the stanza's end.
 #[tactic(auto, using(crate::proofs::Telling::text_read, crate::proofs::Telling::text_refused, crate::proofs::Telling::text_lacks))]
 pub(crate) fn read_command_text(
     alloc: Global,

@@ -14,28 +14,28 @@ use std::alloc::Global;
 use up_value::env::{Env, is_key_byte, is_key_start};
 use up_value::{Text, TextFault};
 
-/// What a text expands to.
+/// The result of expanding a text.
 #[derive(Debug, Drop)]
 pub enum Expanded {
     /// The text with each expansion replaced.
     Text(Text),
-    /// The first key that was needed, isn't set and has no text that stands in for it.
+    /// The first key that was needed, isn't set and has no default text.
     Unset(Text),
 }
 
-// How many `${` may stand in each other.
+// The greatest nesting of `${`.
 const MAX_DEPTH: usize = 16;
 
-// What a text begins with.
+// The start of a text.
 #[derive(Clone, Copy, Drop)]
 enum Piece<'a> {
-    // Bytes that stand for themselves.
+    // Ordinary bytes.
     Run(&'a str),
     // `$KEY`.
     Named(&'a str),
     // `${KEY}`.
     Braced(&'a str),
-    // `${KEY-` or `${KEY:-`, and whether it is the second.
+    // `${KEY-`, or `${KEY:-` if the flag is set.
     Opened(&'a str, bool),
     // `}`.
     Closing,
@@ -43,14 +43,14 @@ enum Piece<'a> {
     Wrong,
 }
 
-// What a piece gives to the text that is written.
+// The contribution of a piece to the expanded text.
 #[derive(Clone, Copy, Drop)]
 enum Given<'a> {
-    // These bytes, and the text that it opens isn't needed.
+    // These bytes; the default text, if the piece opens one, isn't needed.
     Text(&'a str),
-    // Nothing but the text that it opens.
+    // Nothing but the default text that it opens.
     Default,
-    // Nothing, since this key is needed and unset.
+    // Nothing: this key is needed and unset.
     Lacks(&'a str),
 }
 
@@ -60,7 +60,7 @@ fn begins_with(text: &str, byte: u8) -> bool
     text.as_bytes().first() == Some(&byte)
 }
 
-// The text after its first byte, if that is this one.
+// The text after its first byte, or `None` if it begins with another byte.
 fn after(text: &str, byte: u8) -> Option<&str>
     requires { byte < 128 }
     ensures { MatchOption result (begins (λ first. first == byte) text.now ≡ false) (λ rest. text.now
@@ -88,7 +88,7 @@ fn key_bytes_len(bytes: &[u8]) -> usize
     bytes.iter().take_while(|byte| is_key_byte(**byte)).count()
 }
 
-// The longest key that the text begins with, which may be empty, and what stands after it.
+// The longest key that the text begins with, which may be empty, and the rest after it.
 fn split_key(text: &str) -> (&str, &str)
     ensures key { result.0.now ≡ key_of text.now }
     ensures rest { result.1.now ≡ drop (length (key_of text.now)) text.now }
@@ -100,14 +100,14 @@ fn split_key(text: &str) -> (&str, &str)
     }
 }
 
-// How many bytes stand before the first `$` or `}`.
+// The number of bytes before the first `$` or `}`.
 fn run_len(bytes: &[u8]) -> usize
     ensures { result ≡ prefix_len (λ byte. not (byte == 36 || byte == 125)) bytes.now }
 {
     memchr2(b'$', b'}', bytes).unwrap_or(bytes.len())
 }
 
-// What a `${` begins, by the text after it.
+// The piece that a `${` before this text begins, and the rest after it.
 fn read_braced(text: &str) -> (Piece, &str)
     ensures same { signs 0 (36 ∷ 123 ∷ text.now) ≡ signs_of result.0 ++ signs 0 result.1.now }
     ensures shorter { length result.1.now ≤ length text.now }
@@ -130,7 +130,7 @@ fn read_braced(text: &str) -> (Piece, &str)
     (Piece::Wrong, text)
 }
 
-// What a `$` begins, by the text after it.
+// The piece that a `$` before this text begins, and the rest after it.
 fn read_dollar(text: &str) -> (Piece, &str)
     ensures same { signs 0 (36 ∷ text.now) ≡ signs_of result.0 ++ signs 0 result.1.now }
     ensures shorter { length result.1.now ≤ length text.now }
@@ -145,7 +145,7 @@ fn read_dollar(text: &str) -> (Piece, &str)
     (Piece::Named(key), rest)
 }
 
-// What the text begins with, and what stands after it.
+// The first piece of the text, and the rest after it.
 fn read_piece(text: &str) -> (Piece, &str)
     requires { 0 < length text.now }
     ensures same { signs 0 text.now ≡ signs_of result.0 ++ signs 0 result.1.now }
@@ -161,7 +161,7 @@ fn read_piece(text: &str) -> (Piece, &str)
     (Piece::Run(run), rest)
 }
 
-// How many texts are open after a piece, by how many were; none if the piece makes the text malformed.
+// The number of default texts that are open after a piece, `depth` being open before it; `None` if the piece makes the text malformed.
 #[tactic(auto, using(crate::proofs::Nesting::piece_texts_run))]
 fn depth_after(depth: usize, piece: Piece) -> Option<usize>
     requires { depth ≤ 16 }
@@ -184,7 +184,7 @@ fn depth_after(depth: usize, piece: Piece) -> Option<usize>
     }
 }
 
-// The value of a key; if emptied, an empty one doesn't count.
+// The value of a key; with `emptied`, an empty value counts as unset.
 fn usable_value<'a>(env: &'a Env, key: &str, emptied: bool) -> Option<&'a str>
     ensures { option_map (λ value. value.now) result ≡ usable_value emptied (value_of key.now env.now) }
 {
@@ -200,7 +200,7 @@ fn usable_value<'a>(env: &'a Env, key: &str, emptied: bool) -> Option<&'a str>
     }
 }
 
-// What a piece gives that is needed.
+// The contribution of a piece that is needed.
 #[tactic(auto, using(crate::proofs::Nesting::meanings_run, crate::proofs::Nesting::meanings_key, crate::proofs::Nesting::meanings_default))]
 fn given_by<'a>(env: &'a Env, piece: Piece<'a>, depth: usize) -> Given<'a>
     ensures { IsGiven env.now depth piece.entry result }
@@ -227,7 +227,7 @@ fn unset(alloc: Global, key: &str) -> Result<Expanded, TextFault>
     Ok(Expanded::Unset(key))
 }
 
-// What a well formed text expands to. Texts deeper than `kept` aren't needed.
+// Expands a well formed text. Default texts deeper than `kept` aren't needed.
 fn write_text(alloc: Global, text: &str, env: &Env) -> Result<Expanded, TextFault>
     requires { is_expandable text.now ≡ true }
     ensures { Gives (expand text.now env.now) result }
@@ -274,10 +274,10 @@ pub fn is_expandable(text: &str) -> bool
     depth == 0
 }
 
-/// Replaces each expansion in a text by the value of its key, or by the text that stands in for it. `$KEY` takes the longest key;
-/// `${KEY}` is the same, `${KEY-text}` takes the text if the key is unset, and `${KEY:-text}` also if it is empty. Such a
-/// text may have expansions of its own, with at most 16 `${` in each other. Refused with `BadExpansion` if any other `${`
-/// stands in the text, whatever is set, and with `Memory`. Keys that aren't needed aren't looked up.
+/// Replaces each expansion in a text by the value of its key, or by its default text. `$KEY` takes the longest key; `${KEY}` is the same,
+/// `${KEY-text}` takes the text if the key is unset, and `${KEY:-text}` also if it is empty. Such a text may contain expansions itself,
+/// with at most 16 `${` nested. Fails with `BadExpansion` if the text contains any other `${`, whatever is set, and with `Memory`. Keys
+/// that aren't needed aren't looked up.
 pub fn expand(alloc: Global, text: &str, env: &Env) -> Result<Expanded, TextFault>
     ensures { Gives (expand text.now env.now) result }
 {

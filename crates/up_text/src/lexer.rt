@@ -29,14 +29,14 @@ use std::alloc::Global;
 use std::marker::Model;
 use up_value::{Text, TextFault};
 
-/// Reads a text token by token, as init(5) says. It stands right after what it read.
+/// Reads a text token by token, by init(5). Its position is right after what it read.
 #[derive(Debug, Drop)]
 pub struct Lexer<'a> {
-    // What is left of the text.
+    // The rest of the text.
     rest: &'a str,
     // The line of its first byte.
     line: u32,
-    // Whether a token of the current stanza was read.
+    // Whether a token of the current stanza has been read.
     inside: bool,
     // Whether parentheses are tokens, and how many are open.
     parens: bool,
@@ -55,7 +55,7 @@ impl<'a> Model for Lexer<'a> {
     ghost invariant = { IsInRange };
 }
 
-// The line and the text after a line end.
+// The line number and the text after a line end.
 fn after_line_end(text: &str, line: u32) -> (u32, &str)
     requires at_end { is_line_end text.now ≡ true }
     requires in_range { line + length text.now < 2 ^ 32 }
@@ -71,7 +71,7 @@ fn after_line_end(text: &str, line: u32) -> (u32, &str)
 }
 
 impl<'a> Lexer<'a> {
-    /// A lexer at the beginning of a text. It borrows the text and takes no memory.
+    /// Borrows the text and takes no memory.
     pub fn new(text: &'a str) -> Self
         requires { length text.now < 4294967295 }
         ensures { result ≡ start text.now }
@@ -85,7 +85,8 @@ impl<'a> Lexer<'a> {
         }
     }
 
-    /// Whether no token and no stanza's end is left. After a `None` this tells the end of the text from the end of a stanza.
+    /// Whether no token and no end of a stanza is left. After a `None` from `next` this distinguishes the end of the text from the end of a
+    /// stanza.
     pub fn at_end(&self) -> bool
         ensures { result ≡ is_finished self.now }
     {
@@ -102,7 +103,7 @@ impl<'a> Lexer<'a> {
         after_gap(self.rest, self.line, self.inside, self.depth).0
     }
 
-    /// From here on parentheses are tokens of their own, or no longer. None is open then.
+    /// Sets whether parentheses are tokens of their own from here on. None counts as open then.
     pub fn parens(&mut self, on: bool)
         ensures { self.new ≡ with_parens on self.old }
     {
@@ -110,8 +111,8 @@ impl<'a> Lexer<'a> {
         self.depth = 0;
     }
 
-    /// The next token, or `None` at the end of a stanza and at the end of the text. A refused token is refused again by the same
-    /// call; another call may read from there what this one refuses. After memory was refused the same call reads the token again.
+    /// The next token, or `None` at the end of a stanza and at the end of the text. After a failure the same call fails again at the same
+    /// token; another call may be able to read from there. After running out of memory the same call reads the token again.
     pub fn next(&mut self, alloc: Global) -> Result<Option<Token>, TextFault>
         ensures { Answers self.old (reading self.old) result self.new }
     {
@@ -132,9 +133,9 @@ impl<'a> Lexer<'a> {
         Ok(Some(token))
     }
 
-    /// The rest of the stanza as it is written: quotes and backslashes stay, the comment and the blanks at both ends go, and each run
-    /// of blanks with a line end in it is one space. The stanza's end is not passed. A text that isn't whole is refused again by
-    /// the same call; after memory was refused the same call reads it again.
+    /// The rest of the stanza as it is written: quotes and backslashes stay, the comment and the blanks at both ends are removed, and each
+    /// run of blanks that contains a line end becomes one space. The stanza's end is not passed. An incomplete text fails again in the same
+    /// call; after running out of memory the same call reads it again.
     pub fn command_text(&mut self, alloc: Global) -> Result<Text, TextFault>
         ensures { ReadsCommand self.old result self.new }
     {

@@ -1,4 +1,4 @@
-//! What the bytes of a job file, a script or a request say: tokens, the texts of commands, scripts, and what a text expands to.
+//! The meaning of the bytes of a job file, a script or a request: tokens, the texts of commands, scripts, and expansions.
 //!
 //! Everything above this crate takes its texts, names, environments and lists from here too, and its patterns.
 #![tactic(auto)]

@@ -2,7 +2,7 @@
 
 use up_value::Text;
 
-/// A token of init(5), as it is meant.
+/// A token of init(5), without its quoting.
 #[derive(Debug, Drop)]
 pub struct Token {
     /// The line of its first byte; lines count from 1.

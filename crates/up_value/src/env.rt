@@ -59,7 +59,7 @@ pub fn is_key(text: &str) -> bool
     }
 }
 
-/// What a text says before and after its first `=`, if it has one.
+/// The parts of a text before and after its first `=`, or `None` if it has none.
 pub fn split_pair(text: &str) -> Option<(&str, &str)>
     ensures { MatchOption result (has_equals text.now ≡ false) (λ parts. (has_equals text.now ≡ true)
         × (parts.0.now ≡ before_first is_equals text.now) × (parts.1.now ≡ after_first is_equals text.now)) }
@@ -74,7 +74,7 @@ pub fn is_value(text: &str) -> bool
     text.as_bytes().iter().all(|byte| *byte != 0)
 }
 
-// Sets a key: one that is there keeps its place.
+// Sets a key: an existing key keeps its position.
 fn insert(pairs: &mut IndexMap<String, Text>, key: String, value: Text) -> Result<(), AllocError>
     ensures set { OnOk result (bindings_of pairs.new.entries
         ≡ set_in (string_bytes key) value (bindings_of pairs.old.entries)) }
@@ -93,7 +93,7 @@ fn insert(pairs: &mut IndexMap<String, Text>, key: String, value: Text) -> Resul
 }
 
 impl Env {
-    /// No key.
+    /// An empty environment.
     pub fn new(alloc: Global) -> Self
         ensures { result ≡ [] }
     {
@@ -102,14 +102,12 @@ impl Env {
         }
     }
 
-    /// How many keys there are.
     pub fn len(&self) -> usize
         ensures { result ≡ length self.now }
     {
         self.pairs.len()
     }
 
-    /// Whether there is no key.
     pub fn is_empty(&self) -> bool
         ensures { IsTrue result ↔ (self.now ≡ []) }
     {
@@ -126,7 +124,7 @@ impl Env {
         }
     }
 
-    /// The key and the value at a place. Takes no memory.
+    /// The key and the value at a position. Takes no memory.
     pub fn at(&self, i: usize) -> (&str, &str)
         requires { i < length self.now }
         ensures pair { slice_get self.now i ≡ Some (result.0.now, result.1.now) }
@@ -139,8 +137,8 @@ impl Env {
         }
     }
 
-    /// Sets a key: one that is there keeps its place and takes the new value, and a new one goes last. Refused with `BadName` for
-    /// a bad key or value; a refusal changes nothing.
+    /// Sets a key: an existing key keeps its position and takes the new value, and a new one goes last. Fails with `BadName` for a bad key
+    /// or value; on failure nothing changes.
     pub fn set(&mut self, key: &str, value: &str) -> Result<(), TextFault>
         ensures ok { OnOk result ((self.new ≡ set_in key.now value.now self.old)
             × IsTrue (is_key key.now && is_value value.now)) }
@@ -155,7 +153,7 @@ impl Env {
         Ok(())
     }
 
-    // Sets a key that may be one.
+    // Sets a key that is already known to be valid.
     fn put(&mut self, key: &str, value: &str) -> Result<(), AllocError>
         requires key { is_key key.now ≡ true }
         requires value { is_value value.now ≡ true }
@@ -168,7 +166,7 @@ impl Env {
         insert(&mut self.pairs, key, value)
     }
 
-    // Sets each key of `other` in turn, as far as memory goes.
+    // Sets each key of `other` in turn. Out of memory, those set so far stay.
     fn put_all(&mut self, other: &Env) -> Result<(), AllocError>
         ensures { OnOk result (self.new ≡ set_all self.old other.now) }
     {
@@ -179,7 +177,7 @@ impl Env {
         Ok(())
     }
 
-    /// Sets each key of `other` in turn. A copy is made first, so a refusal changes nothing.
+    /// Sets each key of `other` in turn. Works on a copy, so a failure changes nothing.
     pub fn append(&mut self, other: &Env) -> Result<(), AllocError>
         ensures ok { OnOk result (self.new ≡ set_all self.old other.now) }
         ensures unchanged { OnErr result (self.new ≡ self.old) }
@@ -190,7 +188,6 @@ impl Env {
         Ok(())
     }
 
-    /// An equal environment in memory of its own.
     pub fn copy(&self) -> Result<Self, AllocError>
         ensures { IfOk result (λ env. env ≡ self.now) }
     {

@@ -1,26 +1,26 @@
-//! Why a text is refused.
+//! Why a text is rejected.
 ghost use Rattle.std.specs.Prelude.{◌≡◌};
 ghost use Rattle.up_value.specs.Fault.{number_of};
 
 use std::alloc::AllocError;
 use thiserror::Error;
 
-/// Why a text, a name, an environment or a token is refused.
+/// Why a text, a name, an environment or a token is rejected.
 #[derive(Clone, Copy, Debug, PartialEq, Eq, Error)]
 pub enum TextFault {
     /// A quote is still open at the end of the text.
     #[error("UnterminatedQuote")]
     UnterminatedQuote,
-    /// A backslash stands at the end of the text.
+    /// The text ends with a backslash.
     #[error("TrailingBackslash")]
     TrailingBackslash,
-    /// A name, a key or a value has a byte that it may not have.
+    /// A name, a key or a value contains a byte that isn't allowed.
     #[error("BadName")]
     BadName,
     /// An expansion isn't well formed.
     #[error("BadExpansion")]
     BadExpansion,
-    /// Memory was refused.
+    /// Out of memory.
     #[error("Memory")]
     Memory,
 }
@@ -37,7 +37,7 @@ impl From<AllocError> for TextFault {
 }
 
 impl TextFault {
-    /// The number by which a report names this refusal; its name is what it is printed as.
+    /// The number of this fault in a report; it is printed by its name.
     pub fn number(self) -> u8
         ensures { result ≡ number_of self }
     {

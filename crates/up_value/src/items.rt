@@ -3,7 +3,7 @@ ghost use Rattle.std.specs.Prelude.{◌≡◌, length};
 
 use std::marker::Model;
 
-/// A list seen by contracts as its items in order. It is made from a `Vec` and gives it back, without taking memory.
+/// A list seen by contracts as its items in order. It is made from a `Vec` and turns back into it, without taking memory.
 #[derive(Debug, Drop)]
 pub struct Items<T> {
     items: Vec<T>,
@@ -21,7 +21,7 @@ impl<T> Model for Items<T> {
 }
 
 impl<T> Items<T> {
-    /// The items of a `Vec`, which keeps its memory.
+    /// Takes over a `Vec` without copying.
     pub fn new(items: Vec<T>) -> Self
         ensures { result ≡ items.items }
     {
@@ -34,7 +34,7 @@ impl<T> Items<T> {
         self.items.as_slice()
     }
 
-    /// The `Vec`, which keeps its memory.
+    /// Returns the `Vec` without copying.
     pub fn into_vec(self) -> Vec<T>
         ensures { result.items ≡ self }
     {

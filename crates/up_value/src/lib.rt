@@ -1,7 +1,7 @@
-//! Texts, names, environments and lists: the values that everything above holds.
+//! Texts, names, environments and lists: the values that everything above uses.
 //!
 //! A text is held as [`Text`], a name as [`Name`] and a list as [`Items`], which contracts see as the list of their bytes or items,
-//! without where they lie in memory.
+//! without their addresses in memory.
 #![tactic(auto)]
 
 pub mod env;

@@ -43,7 +43,7 @@ fn are_name_bytes(bytes: &[u8]) -> bool
     bytes.iter().all(|byte| is_name_byte(*byte))
 }
 
-/// Whether the text may be a name: it has one or more bytes from 0x21 to 0x7E without `"`, `'`, `\`, `(`, `)`, `#`, `=` and `$`.
+/// Whether the text may be a name: one or more bytes from 0x21 to 0x7E other than `"`, `'`, `\`, `(`, `)`, `#`, `=` and `$`.
 pub fn is_name(text: &str) -> bool
     ensures { result ≡ is_name text.now }
 {
@@ -51,7 +51,7 @@ pub fn is_name(text: &str) -> bool
 }
 
 impl Name {
-    /// The name of these bytes. Refused with `BadName` if they are no name ([`is_name`]).
+    /// Fails with `BadName` if the bytes aren't a name ([`is_name`]).
     pub fn new(alloc: Global, text: &str) -> Result<Self, TextFault>
         ensures named { IfOk result (λ name. (name ≡ text.now) × IsTrue (is_name text.now)) }
         ensures refused { IfErr result (λ fault. fault
@@ -71,7 +71,6 @@ impl Name {
         self.text.as_str()
     }
 
-    /// Whether both are the same name.
     pub fn is(&self, other: &Name) -> bool
         ensures test { result ≡ bytes_eq self.now other.now }
         ensures equal { IsTrue result ↔ (self.now ≡ other.now) }
@@ -79,7 +78,6 @@ impl Name {
         self.text.as_str() == other.text.as_str()
     }
 
-    /// An equal name in memory of its own.
     pub fn copy(&self) -> Result<Self, AllocError>
         ensures { IfOk result (λ name. name ≡ self.now) }
     {

@@ -33,14 +33,13 @@ impl Clone for Text {
 }
 
 impl Text {
-    /// The text of a string, which keeps its memory.
+    /// Takes over a string without copying.
     pub fn new(text: String) -> Self
         ensures { result ≡ string_bytes text }
     {
         Text { text }
     }
 
-    /// A text of its own with the same bytes.
     pub fn from_str(alloc: Global, text: &str) -> Result<Self, AllocError>
         ensures { IfOk result (λ t. t ≡ text.now) }
     {
@@ -54,7 +53,7 @@ impl Text {
         self.text.as_str()
     }
 
-    /// The string, which keeps its memory.
+    /// Returns the string without copying.
     pub fn into_string(self) -> String
         ensures { string_bytes result ≡ self }
     {
@@ -62,7 +61,6 @@ impl Text {
         text
     }
 
-    /// Whether the bytes are those of `other`.
     pub fn is(&self, other: &str) -> bool
         ensures test { result ≡ bytes_eq self.now other.now }
         ensures equal { IsTrue result ↔ (self.now ≡ other.now) }
@@ -70,7 +68,6 @@ impl Text {
         self.text.as_str() == other
     }
 
-    /// An equal text in memory of its own.
     pub fn copy(&self) -> Result<Self, AllocError>
         ensures { IfOk result (λ t. t ≡ self.now) }
     {
@@ -79,7 +76,7 @@ impl Text {
     }
 }
 
-/// The bytes as a text, if they are UTF-8.
+/// The bytes as a text, or `None` if they aren't UTF-8.
 pub fn as_text(bytes: &[u8]) -> Option<&str>
     ensures test { MatchOption result (is_utf8 bytes.now ≡ false) (λ text. is_utf8 bytes.now ≡ true) }
     ensures same { IfSome result (λ text. text.now ≡ bytes.now) }
@@ -90,7 +87,6 @@ pub fn as_text(bytes: &[u8]) -> Option<&str>
     }
 }
 
-/// Equal texts in memory of their own.
 pub fn copy_texts(alloc: Global, texts: &[Text]) -> Result<Items<Text>, AllocError>
     ensures { IfOk result (λ copied. copied ≡ texts.now) }
 {

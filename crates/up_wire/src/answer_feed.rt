@@ -1,4 +1,4 @@
-//! Takes the bytes of the init as they come.
+//! Receives the bytes of init piece by piece.
 ghost use Rattle.std.specs.Prelude.{◌≡◌, ◌++◌, ◌∷◌, None, Some, Err, [], take, drop, length, IfOk, IfErr, IfSome};
 ghost use Rattle.up_wire.specs.declared.fault.WireFault.TheVariants.{Memory};
 ghost use Rattle.up_wire.specs.Fault.{wire_fault};
@@ -13,10 +13,10 @@ use std::alloc::Global;
 use std::marker::Model;
 use up_model::Answer;
 
-/// What has come of the init's bytes: those after the last whole answer, or the fault that is answered for good.
+/// The bytes from init received so far: those after the last complete answer, or the fault, which is permanent.
 #[derive(Drop)]
 pub struct AnswerFeed {
-    // The text of the full frames of an answer that isn't whole, joined once.
+    // The text of the full frames of an incomplete answer, joined once.
     text: Vec<u8>,
     // The bytes after them.
     rest: Vec<u8>,
@@ -34,7 +34,7 @@ impl Model for AnswerFeed {
     ghost invariant = { λ f. AreFull f.text.items };
 }
 
-// The answers of the whole frames, and a copy of the bytes after them.
+// The answers of the complete frames, and a copy of the bytes after them.
 fn split(alloc: Global, bytes: &[u8]) -> Result<(Vec<Answer>, Vec<u8>), WireFault>
     ensures frames { IfOk result (λ found. AnswerFrames bytes.now found.0.items found.1.items) }
     ensures fault { IfErr result (λ fault. AnswersStop fault bytes.now) }
@@ -44,7 +44,7 @@ fn split(alloc: Global, bytes: &[u8]) -> Result<(Vec<Answer>, Vec<u8>), WireFaul
     Ok((answers, rest))
 }
 
-// The same after a first answer, which a refusal hands back.
+// The same after a first answer, which a failure hands back.
 fn split_after(
     alloc: Global,
     first: Answer,
@@ -66,7 +66,7 @@ fn split_after(
     }
 }
 
-// The answers of the text of full frames and of the bytes after them, of which what is no whole answer stays.
+// The answers of the text of full frames and of the bytes after them; what isn't a complete answer stays.
 fn take_answers(
     alloc: Global,
     text: &mut Vec<u8>,
@@ -108,7 +108,6 @@ fn take_answers(
 }
 
 impl AnswerFeed {
-    /// No byte has come.
     #[tactic(auto, unfolding(crate::specs::Answers::pending))]
     pub fn new(alloc: Global) -> Self
         ensures { result ≡ record { rest = []; fault = None } }
@@ -120,8 +119,8 @@ impl AnswerFeed {
         }
     }
 
-    /// Takes the next bytes, and returns the answers that are whole now. Refused with `FrameTooLarge` or `BadFrame` if the frame after
-    /// the whole good ones is faulty, and then for good; out of memory, nothing of the piece was taken.
+    /// Takes the next bytes, and returns the answers that are now complete. Fails with `FrameTooLarge` or `BadFrame` if the frame after the
+    /// complete good ones is faulty, and then permanently; out of memory, nothing of the piece is taken.
     pub fn feed(&mut self, piece: &[u8]) -> Result<Vec<Answer>, WireFault>
         ensures broken { IfSome self.old.fault (λ fault. (result ≡ Err (wire_fault fault))
             × (self.new ≡ self.old)) }

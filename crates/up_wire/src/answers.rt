@@ -13,10 +13,10 @@ use std::mem;
 use up_model::Answer;
 use up_text::Text;
 
-/// How much text a full frame has.
+/// The length of the text of a full frame, in bytes.
 pub const MAX_CHUNK: usize = 65535;
 
-// The text of a full frame.
+// The text of a full frame, `None` for any other frame.
 fn chunk_of(payload: &[u8]) -> Option<&[u8]>
     ensures chunk { IfSome result (λ chunk. (payload.now ≡ 2 ∷ chunk.now) × (length chunk.now ≡ max_chunk)) }
     ensures none { IfNone result (is_chunk payload.now ≡ false) }
@@ -43,15 +43,15 @@ fn verdict_of(kind: u8) -> Result<bool, WireFault>
     }
 }
 
-/// What comes after the full frames of an answer.
+/// The bytes after the full frames of an answer.
 pub(crate) enum Ahead<'a> {
-    /// No whole frame, but these bytes.
+    /// No complete frame, but these bytes.
     Open(&'a [u8]),
     /// The payload of a frame that isn't full, and the bytes after it.
     Last(&'a [u8], &'a [u8]),
 }
 
-/// Appends the text of the full frames, and returns what comes after them.
+/// Appends the text of the full frames, and returns what is after them.
 pub(crate) fn join_full<'a>(text: &mut Vec<u8>, bytes: &'a [u8]) -> Result<Ahead<'a>, WireFault>
     ensures kept { take (length text.old.items) text.new.items ≡ text.old.items }
     ensures whole { KeepsWhole bytes.now result }
@@ -71,7 +71,7 @@ pub(crate) fn join_full<'a>(text: &mut Vec<u8>, bytes: &'a [u8]) -> Result<Ahead
     }
 }
 
-/// The text of these bytes, which keeps their memory; bytes that are no text stay.
+/// The text of these bytes, in their memory; bytes that aren't UTF-8 become `None`.
 #[tactic(auto, using(crate::proofs::Texts::is_text, crate::proofs::Texts::is_no_text))]
 fn text_of(bytes: &mut Vec<u8>) -> Option<Text>
     ensures text { IfSome result (λ text. (is_utf8 bytes.old.items ≡ true) × (text ≡ bytes.old.items)
@@ -85,7 +85,8 @@ fn text_of(bytes: &mut Vec<u8>) -> Option<Text>
     }
 }
 
-/// The answer that ends with a payload, after the text of its full frames, which becomes part of it; out of memory it stays.
+/// The answer that ends with a payload, after the text of its full frames, which becomes part of it; out of memory the text is left as it
+/// is.
 pub(crate) fn end(text: &mut Vec<u8>, payload: &[u8]) -> Result<Answer, WireFault>
     ensures answer { Reads (λ x. x) result (last_in text.old.items payload.now) }
     ensures taken { OnOk result (text.new.items ≡ []) }
@@ -105,7 +106,7 @@ pub(crate) fn end(text: &mut Vec<u8>, payload: &[u8]) -> Result<Answer, WireFaul
     }
 }
 
-// The first answer, and the bytes after it, once it is whole.
+// The first answer, and the bytes after it; `None` if it isn't complete.
 fn answer_at(alloc: Global, bytes: &[u8]) -> Result<Option<(Answer, &[u8])>, WireFault>
     ensures none { IfOk result (λ found. IfNone found (IsOpen bytes.now)) }
     ensures some { IfOk result (λ found. IfSome found (λ x. (is_utf8 x.0.text ≡ true)
@@ -122,7 +123,7 @@ fn answer_at(alloc: Global, bytes: &[u8]) -> Result<Option<(Answer, &[u8])>, Wir
     }
 }
 
-/// The whole answers, and the bytes after them.
+/// The complete answers, and the bytes after them.
 pub(crate) fn answers_in(alloc: Global, bytes: &[u8]) -> Result<(Vec<Answer>, &[u8]), WireFault>
     ensures frames { IfOk result (λ found. AnswerFrames bytes.now found.0.items found.1.now) }
     ensures fault { IfErr result (λ fault. AnswersStop fault bytes.now) }

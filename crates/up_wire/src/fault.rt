@@ -1,20 +1,20 @@
-//! Why a frame can't be read or written, and why words are no request.
+//! Why a frame can't be read or written, and why words aren't a request.
 ghost use Rattle.std.specs.Prelude.{◌≡◌};
 ghost use Rattle.up_wire.specs.Fault.{number_of, wire_fault};
 
 use std::alloc::{AllocError, AllocFailed};
 use thiserror::Error;
 
-/// The fault of a frame, after which a stream can't be read on.
+/// The fault of a frame, after which a stream can't be read any further.
 #[derive(Clone, Copy, Debug, PartialEq, Eq)]
 pub enum FrameFault {
-    /// Its length is over the limit.
+    /// Its length exceeds the limit.
     TooLarge,
-    /// Its payload says nothing.
+    /// Its payload has no meaning.
     Malformed,
 }
 
-/// A refusal of this crate.
+/// A fault of this crate.
 #[derive(Clone, Copy, Debug, PartialEq, Eq, Error)]
 pub enum WireFault {
     #[error("the frame is too large")]
@@ -28,7 +28,7 @@ pub enum WireFault {
 }
 
 impl WireFault {
-    /// The number by which the refusal is known.
+    /// The number of the fault in a report.
     pub fn number(self) -> u8
         ensures { result ≡ number_of self }
     {

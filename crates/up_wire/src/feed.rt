@@ -1,4 +1,4 @@
-//! Takes the bytes of a client as they come.
+//! Receives the bytes of a client piece by piece.
 ghost use Rattle.std.specs.Prelude.{◌≡◌, ◌++◌, None, Some, Err, [], take, option_map, IfOk, IfErr, IfSome};
 ghost use Rattle.up_wire.specs.Fault.{wire_fault};
 ghost use Rattle.up_wire.specs.Frames.{Frames};
@@ -10,7 +10,7 @@ use std::alloc::Global;
 use std::marker::Model;
 use up_model::Request;
 
-/// What has come of a client's bytes: those after the last whole frame, or the fault that is answered for good.
+/// The bytes from a client received so far: those after the last complete frame, or the fault, which is permanent.
 #[derive(Drop)]
 pub struct Feed {
     rest: Vec<u8>,
@@ -25,7 +25,7 @@ impl Model for Feed {
     ghost view = { λ f. record { rest = f.rest.items; fault = f.fault } };
 }
 
-/// The requests of the whole frames, and a copy of the bytes after them if there is such a frame.
+/// The requests of the complete frames, and a copy of the bytes after them if there is such a frame.
 fn split(alloc: Global, bytes: &[u8]) -> Result<(Vec<Request>, Option<Vec<u8>>), WireFault>
     ensures frames { IfOk result (λ found. Frames bytes.now found.0.items
         (kept_of (option_map (λ rest. rest.items) found.1) bytes.now)) }
@@ -39,7 +39,7 @@ fn split(alloc: Global, bytes: &[u8]) -> Result<(Vec<Request>, Option<Vec<u8>>),
     Ok((requests, Some(rest)))
 }
 
-/// The frame's fault that a refusal is.
+/// The fault of the frame, `None` if the frame isn't at fault.
 pub(crate) fn frame_fault(fault: WireFault) -> Option<FrameFault>
     ensures { result ≡ frame_fault fault }
 {
@@ -51,7 +51,6 @@ pub(crate) fn frame_fault(fault: WireFault) -> Option<FrameFault>
 }
 
 impl Feed {
-    /// No byte has come.
     pub fn new(alloc: Global) -> Self
         ensures { result ≡ record { rest = []; fault = None } }
     {
@@ -61,8 +60,8 @@ impl Feed {
         }
     }
 
-    /// Takes the next bytes, and returns the requests that are whole now. Refused with `FrameTooLarge` or `BadFrame` if the frame after
-    /// the whole good ones is faulty, and then for good; out of memory, nothing of the piece was taken.
+    /// Takes the next bytes, and returns the requests that are now complete. Fails with `FrameTooLarge` or `BadFrame` if the frame after
+    /// the complete good ones is faulty, and then permanently; out of memory, nothing of the piece is taken.
     pub fn feed(&mut self, piece: &[u8]) -> Result<Vec<Request>, WireFault>
         ensures broken { IfSome self.old.fault (λ fault. (result ≡ Err (wire_fault fault))
             × (self.new ≡ self.old)) }
@@ -93,7 +92,7 @@ impl Feed {
         }
     }
 
-    // A frame's fault is kept for good; out of memory, the rest is what it was.
+    // A frame's fault is permanent; out of memory, the bytes before the piece are restored.
     fn refuse(&mut self, before: usize, fault: WireFault)
         ensures { self.new
             ≡ refused fault (record { rest = take before self.old.rest; fault = self.old.fault }) }

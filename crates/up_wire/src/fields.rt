@@ -71,7 +71,7 @@ fn wait_of(byte: u8) -> Result<bool, WireFault>
     }
 }
 
-// Sets a key that isn't there yet.
+// Sets a key; a key that is set already is a fault of the frame.
 fn set(vars: &mut Env, key: &str, value: &str) -> Result<(), WireFault>
     ensures { (rest : Bytes)
         → Reads (λ _. (vars.new, rest)) result (with_variable vars.old key.now (value.now, rest)) }
@@ -138,7 +138,7 @@ fn about_at(alloc: Global, command: Command, wait: bool, bytes: &[u8]) -> Result
     request_of(alloc, command, wait, name, vars, rest)
 }
 
-/// The request that a payload has.
+/// Reads the request in a payload.
 #[tactic(auto, unfolding(crate::specs::Fields::request_in))]
 pub(crate) fn request_in(alloc: Global, payload: &[u8]) -> Result<Request, WireFault>
     ensures { Reads (λ x. x) result (request_in payload.now) }

@@ -11,10 +11,10 @@ use byteorder::{BigEndian, ByteOrder};
 use std::alloc::Global;
 use up_model::Request;
 
-/// The greatest length of a payload.
+/// The greatest length of a payload, in bytes.
 pub const MAX_PAYLOAD: usize = 65536;
 
-/// The first frame's payload, and the bytes after the frame, once it is whole.
+/// The first frame's payload, and the bytes after the frame; `None` if it isn't complete.
 pub(crate) fn payload_at(bytes: &[u8]) -> Result<Option<(&[u8], &[u8])>, FrameFault>
     ensures none { IfOk result (λ found. IfNone found (is_partial bytes.now ≡ true)) }
     ensures some { IfOk result (λ found. IfSome found (λ x. (length x.0.now ≤ max_payload)
@@ -35,7 +35,7 @@ pub(crate) fn payload_at(bytes: &[u8]) -> Result<Option<(&[u8], &[u8])>, FrameFa
     Ok(Some(rest.split_at(length)))
 }
 
-/// The request of the first frame, and the bytes after the frame, once it is whole.
+/// The request of the first frame, and the bytes after the frame; `None` if it isn't complete.
 fn request_at(alloc: Global, bytes: &[u8]) -> Result<Option<(Request, &[u8])>, WireFault>
     ensures none { IfOk result (λ found. IfNone found (is_partial bytes.now ≡ true)) }
     ensures some { IfOk result (λ found. IfSome found (λ x. IsSendable x.0
@@ -51,7 +51,7 @@ fn request_at(alloc: Global, bytes: &[u8]) -> Result<Option<(Request, &[u8])>, W
     }
 }
 
-/// The requests of the whole frames, and the bytes after them.
+/// The requests of the complete frames, and the bytes after them.
 pub(crate) fn requests_in(alloc: Global, bytes: &[u8]) -> Result<(Vec<Request>, &[u8]), WireFault>
     ensures frames { IfOk result (λ found. Frames bytes.now found.0.items found.1.now) }
     ensures fault { IfErr result (λ fault. Stops fault bytes.now) }

@@ -1,4 +1,4 @@
-//! Laws: what holds of all bytes, however they come.
+//! Laws about all bytes, however they are cut into pieces.
 ghost use Rattle.std.specs.Prelude.{◌≡◌, ◌++◌, ◌&&◌, ◌||◌, [], Bool, true, false, List, Some, is_some};
 ghost use Rattle.std.specs.List.{list_all};
 ghost use Rattle.up_text.specs.Names.{is_name};
@@ -27,14 +27,14 @@ pub fn no_fault()
         → Frames bytes requests rest → Breaks fault bytes → ⊥ }
 {}
 
-/// A command about a job or an event has a request exactly if its name is one and each word is `KEY=VALUE`.
+/// A command about a job or an event has a request exactly if its name is valid and each word is `KEY=VALUE`.
 pub fn sound_words()
     ensures { (its : Command) (wait : Bool) (name : Bytes) (words : List Bytes) → is_alone its ≡ false
         → (wait || may_wait its) ≡ true
         → is_some (request_with its wait name words) ≡ (is_name name && list_all is_binding words) }
 {}
 
-/// A command that stands alone has a request without words.
+/// A command without a name has a request without words.
 pub fn no_words()
     ensures { (its : Command) → is_alone its ≡ true
         → request_with its true [] [] ≡ Some (record { command = its; wait = true; name = []; vars = [] }) }

@@ -1,4 +1,4 @@
-//! What the client and the init say to one another: frames of bytes, and the words of a command line.
+//! The protocol between the client and init: frames of bytes, and the words of a command line.
 #![tactic(auto)]
 
 pub mod answer_feed;

@@ -1,4 +1,4 @@
-//! Where the init is found.
+//! The default path of init's socket.
 
-/// The path of the init's socket, if the two programs are told no other.
+/// The path of init's socket, unless the two programs are given another one.
 pub const DEFAULT_SOCKET: &str = "/run/initd.socket";

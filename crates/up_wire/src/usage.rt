@@ -54,7 +54,7 @@ fn about<'a>(
         .arg(variables(alloc))
 }
 
-// The same, if the client may choose not to wait.
+// The same, with the option `--no-wait`.
 fn waiting<'a>(
     alloc: Global,
     name: &'a str,
@@ -66,14 +66,14 @@ fn waiting<'a>(
     about(alloc, name, what, help)?.arg(no_wait(alloc))
 }
 
-// A command that stands alone.
+// A command without arguments.
 fn alone<'a>(alloc: Global, name: &'a str, help: &'a str) -> Command<'a>
     ensures { IsUsage (new_app name.entry.now) result }
 {
     Command::new(alloc, name).about(help)
 }
 
-// A command line with one command more.
+// Adds a command to a command line.
 fn join<'a>(line: Command<'a>, command: Command<'a>) -> Result<Command<'a>, AllocError>
     ensures { (app its : App) → IsUsage app line.entry → IsUsage its command.entry
         → IfOk result (IsUsage (with_subcommand app its.top)) }
@@ -81,7 +81,7 @@ fn join<'a>(line: Command<'a>, command: Command<'a>) -> Result<Command<'a>, Allo
     line.subcommand(command)
 }
 
-// The same, if the command could be made.
+// The same, if the command could be made; out of memory, the command line is dropped.
 fn add<'a>(
     line: Command<'a>,
     made: Result<Command<'a>, AllocError>,
@@ -135,7 +135,7 @@ fn add_alone<'a>(
     join(line, alone(alloc, name, help))
 }
 
-// Nothing but the line is owned at a `?`: a command there would be dropped field by field at each.
+// Only the line is owned at a `?`: a command there would be dropped field by field at each.
 fn job_commands<'a>(alloc: Global, line: Command<'a>) -> Result<Command<'a>, AllocError>
     ensures { (app : App) → IsUsage app line.entry
         → IfOk result (IsUsage (with_commands app (asked.Start ∷ asked.Stop ∷ asked.Restart ∷ asked.Status

@@ -1,4 +1,4 @@
-//! The requests of words.
+//! Makes requests from words.
 ghost use Rattle.std.specs.Prelude.{◌≡◌, [], map, false};
 ghost use Rattle.clap.specs.Words.{found_of, rows_of, subcommand_rows_of};
 ghost use Rattle.up_wire.specs.Words.{with_binding, with_word, with_words, request_with, is_set, text_in, request_in, request_matched, Makes, Sets};
@@ -20,7 +20,7 @@ fn set(vars: &mut Env, key: &str, value: &str) -> Result<(), WireFault>
     }
 }
 
-// Sets the variable of a word.
+// Fails with `BadWord` if the word isn't a valid `KEY=VALUE`.
 fn set_word(vars: &mut Env, word: &str) -> Result<(), WireFault>
     ensures { Sets result vars.new (with_word word.now vars.old) }
 {
@@ -30,7 +30,7 @@ fn set_word(vars: &mut Env, word: &str) -> Result<(), WireFault>
     }
 }
 
-// The variables of words; of a repeated key the later value counts.
+// For a repeated key the later value counts.
 #[tactic(auto, using(crate::proofs::Cutting::words_left))]
 fn with_words(alloc: Global, words: &[&str]) -> Result<Env, WireFault>
     ensures { Makes result (with_words [] (map (λ word. word.now) words.now)) }
@@ -79,7 +79,7 @@ fn text_in<'a>(given: &ArgMatches<'a>, argument: &str) -> &'a str
     }
 }
 
-// The request of a command, of which this was matched.
+// The request of a command with these arguments.
 fn request_in(alloc: Global, command: Command, given: &ArgMatches) -> Result<Request, WireFault>
     ensures { Makes result (request_in (rows_of (found_of given.now)) command) }
 {
@@ -89,8 +89,8 @@ fn request_in(alloc: Global, command: Command, given: &ArgMatches) -> Result<Req
     request_with(alloc, command, wait, name, words)
 }
 
-/// The request of what was matched; of a repeated key the later value counts. Refused with `BadWord` if it is none: a word is no name
-/// or no `KEY=VALUE`.
+/// The request of a parsed command line; for a repeated key the later value counts. Fails with `BadWord` if a word isn't a valid name or
+/// `KEY=VALUE`.
 pub fn request_of(alloc: Global, matches: &ArgMatches) -> Result<Request, WireFault>
     ensures { Makes result (request_matched (subcommand_rows_of matches.now)) }
 {

@@ -81,7 +81,7 @@ fn push_variables(out: &mut Vec<u8>, vars: &Env) -> Result<(), AllocError>
     Ok(())
 }
 
-// Whether the variables take at most so many bytes.
+// Whether the variables take at most this many bytes.
 fn are_within(vars: &Env, most: usize) -> bool
     requires { most ≤ max_payload }
     ensures { result ≡ nat_le (length (flat_map variable vars.now)) most }
@@ -111,7 +111,7 @@ fn are_parts_within(name: &str, vars: &Env) -> bool
     length <= MAX_PAYLOAD - 6 && are_within(vars, MAX_PAYLOAD - 6 - length)
 }
 
-// Whether a payload can have the request.
+// Whether the request fits into a payload.
 fn is_within(request: &Request) -> bool
     ensures { result ≡ nat_le (length (payload_of request.now)) max_payload }
 {
@@ -153,7 +153,7 @@ fn append(request: &Request, out: &mut Vec<u8>) -> Result<(), AllocError>
     out.extend_from_slice(&bytes)
 }
 
-/// Appends the frame of a request. Refused with `FrameTooLarge` if it doesn't fit into one; a refusal appends nothing.
+/// Appends the frame of a request. Fails with `FrameTooLarge` if it doesn't fit into one; a failure appends nothing.
 pub fn write_request(request: &Request, out: &mut Vec<u8>) -> Result<(), WireFault>
     ensures ok { OnOk result ((length (payload_of request.now) ≤ max_payload)
         × (out.new.items ≡ out.old.items ++ request_frame request.now)) }
@@ -196,7 +196,7 @@ fn push_frames(out: &mut Vec<u8>, ok: bool, text: &[u8]) -> Result<(), AllocErro
     push_frame(out, verdict_number(ok), rest)
 }
 
-/// Appends the frames of an answer. A refusal appends nothing.
+/// Appends the frames of an answer. A failure appends nothing.
 pub fn write_answer(answer: &Answer, out: &mut Vec<u8>) -> Result<(), AllocError>
     ensures ok { OnOk result (out.new.items ≡ out.old.items ++ answer_frames answer.now) }
     ensures unchanged { OnErr result (out.new.items ≡ out.old.items) }

@@ -1,4 +1,4 @@
-//! Laws: what holds of the meaning of every text.
+//! Laws about the meaning of every text.
 ghost use Rattle.std.specs.Prelude.{ℕ, ◌≡◌, ◌==◌, List, true, not};
 ghost use Rattle.std.specs.List.{list_all};
 ghost use Rattle.up_value.specs.Values.{Bytes, Bindings};

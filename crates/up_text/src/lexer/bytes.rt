@@ -1,4 +1,4 @@
-//! What a byte is to the lexer, and where a text is cut.
+//! The classes of bytes in the lexer, and where a text is cut.
 ghost use Rattle.std.specs.Prelude.{◌≡◌, ◌<◌, Bool, true, false, length, drop, take};
 ghost use Rattle.std.specs.List.{prefix_len, position_or_len};
 ghost use Rattle.up_text.specs.Tokens.{is_line_feed, is_blank, is_hash, is_quote, is_backslash, is_paren};
@@ -28,7 +28,7 @@ fn is_paren(byte: u8) -> bool
     byte == b'(' || byte == b')'
 }
 
-// Whether the byte stands for itself outside quotes.
+// Whether the byte is ordinary outside quotes.
 #[tactic(auto, unfolding(crate::specs::Lexer::is_ordinary, crate::specs::Tokens::is_line_feed, crate::specs::Tokens::is_hash, crate::specs::Tokens::is_backslash))]
 fn is_ordinary(byte: u8, parens: bool) -> bool
     ensures { result ≡ is_ordinary parens byte }
@@ -41,7 +41,7 @@ fn is_ordinary(byte: u8, parens: bool) -> bool
         || (parens && is_paren(byte)))
 }
 
-// Whether the byte, which is no blank, stands for itself in a piece quoted by `quote`.
+// Whether the byte, which isn't a blank, is ordinary in a piece quoted by `quote`.
 #[tactic(auto, unfolding(crate::specs::Lexer::is_literal, crate::specs::Tokens::is_line_feed, crate::specs::Tokens::is_backslash))]
 fn is_literal(byte: u8, quote: u8) -> bool
     ensures { result ≡ is_literal quote byte }
@@ -49,7 +49,7 @@ fn is_literal(byte: u8, quote: u8) -> bool
     !(byte == quote || byte == b'\n' || is_blank(byte) || byte == b'\\')
 }
 
-// A byte that doesn't begin a character.
+// Whether the byte isn't ASCII.
 #[tactic(auto, unfolding(crate::specs::Lexer::is_high))]
 fn is_high(byte: u8) -> bool
     ensures { result ≡ is_high byte }
@@ -57,7 +57,6 @@ fn is_high(byte: u8) -> bool
     byte >= 128
 }
 
-// How many blanks the bytes begin with.
 pub(crate) fn blanks_len(bytes: &[u8]) -> usize
     ensures { result ≡ prefix_len is_blank bytes.now }
 {
@@ -88,7 +87,7 @@ fn high_len(bytes: &[u8]) -> usize
     bytes.iter().take_while(|byte| is_high(**byte)).count()
 }
 
-// How many bytes stand before the line feed.
+// The number of bytes before the first line feed.
 pub(crate) fn line_len(bytes: &[u8]) -> usize
     ensures { result ≡ prefix_len is_in_line bytes.now }
 {
@@ -149,7 +148,7 @@ pub(crate) fn is_line_end(text: &str) -> bool
     text.is_empty() || begins_feed(text)
 }
 
-// Whether a line end is escaped here, and so is a blank.
+// Whether the text begins with an escaped line end, which counts as a blank.
 #[tactic(auto, unfolding(crate::specs::Tokens::is_backslash, crate::specs::Tokens::is_line_feed))]
 pub(crate) fn begins_joint(text: &str) -> bool
     ensures { result ≡ begins_joint text.now }
@@ -170,7 +169,7 @@ pub(crate) fn begins_gap(text: &str, passes: bool) -> bool
         || (passes && begins_feed(text))
 }
 
-// Whether a token that was read so far ends here.
+// Whether a token ends before this text.
 pub(crate) fn ends_token(text: &str, parens: bool) -> bool
     ensures { result ≡ ends_token parens text.now }
 {
@@ -181,21 +180,21 @@ pub(crate) fn ends_token(text: &str, parens: bool) -> bool
         || (parens && begins_paren(text))
 }
 
-/// The blanks that the text begins with, and what stands after them.
+/// The blanks that the text begins with, and the rest after them.
 pub(crate) fn split_blanks(text: &str) -> (&str, &str)
     ensures { Splits is_blank text.now result.0.now result.1.now }
 {
     text.split_at(blanks_len(text.as_bytes()))
 }
 
-/// The bytes that stand for themselves outside quotes, and what stands after them.
+/// The bytes that are ordinary outside quotes, and the rest after them.
 pub(crate) fn split_ordinary(text: &str, parens: bool) -> (&str, &str)
     ensures { Splits (is_ordinary parens) text.now result.0.now result.1.now }
 {
     text.split_at(ordinary_len(text.as_bytes(), parens))
 }
 
-/// The bytes that stand for themselves in a quoted piece and are no blanks, and what stands after them.
+/// The bytes that are ordinary in a quoted piece and aren't blanks, and the rest after them.
 pub(crate) fn split_literal(text: &str, quote: u8) -> (&str, &str)
     requires { is_quote quote ≡ true }
     ensures { Splits (is_literal quote) text.now result.0.now result.1.now }
@@ -203,14 +202,14 @@ pub(crate) fn split_literal(text: &str, quote: u8) -> (&str, &str)
     text.split_at(literal_len(text.as_bytes(), quote))
 }
 
-/// The line without its line feed, and what stands after it.
+/// The line without its line feed, and the rest from the line feed on.
 pub(crate) fn split_line(text: &str) -> (&str, &str)
     ensures { Splits is_in_line text.now result.0.now result.1.now }
 {
     text.split_at(line_len(text.as_bytes()))
 }
 
-/// The first byte, which is ASCII, and what stands after it.
+/// The first byte, which is ASCII, and the rest after it.
 pub(crate) fn split_first(text: &str) -> (&str, &str)
     requires { begins is_low text.now ≡ true }
     ensures front { result.0.now ≡ take 1 text.now }
@@ -219,7 +218,7 @@ pub(crate) fn split_first(text: &str) -> (&str, &str)
     text.split_at(1)
 }
 
-/// The first character, and what stands after it.
+/// The first character with the non-ASCII ones right after it, and the rest after them.
 pub(crate) fn split_char(text: &str) -> (&str, &str)
     requires { 0 < length text.now }
     ensures { SplitsChar text.now result.0.now result.1.now }

@@ -10,8 +10,7 @@ use crate::lexer::gap::after_gap;
 use crate::lexer::spelling::push_spelling;
 use up_value::TextFault;
 
-// Passes a gap, and appends what it is written as: its blanks as they stand, or one space where lines are joined. A gap before the
-// stanza's end isn't written.
+// Passes a gap and appends it: its blanks as they are, or one space if lines are joined. A gap before the stanza's end isn't written.
 fn push_gap<'a>(out: &mut Draft, text: &'a str, line: u32) -> (u32, &'a str)
     requires { line + length text.now < 2 ^ 32 }
     ensures { Between text.now line result.1.now result.0 out.old out.new }
@@ -40,7 +39,7 @@ fn push_word<'a>(out: &mut Draft, text: &'a str, line: u32) -> Result<(u32, &'a 
     Ok((line, rest))
 }
 
-/// Appends a command's text from after its gap on, and gives the line and the text at its end.
+/// Appends a command's text from after its gap on, and returns the line and the text at its end.
 pub fn push_command<'a>(
     out: &mut Draft,
     text: &'a str,

@@ -1,4 +1,4 @@
-//! Takes the comments out of a text, of which the bytes need be no characters.
+//! Removes the comments from a text, whose bytes need not be valid characters.
 ghost use Rattle.std.specs.Prelude.{◌≡◌, ◌++◌, false, IfOk, OnOk};
 ghost use Rattle.up_text.specs.Tokens.{is_line_feed, is_quote, mode_after, mode_outside, mode_quoted};
 ghost use Rattle.up_pattern.specs.Lists.{begins};
@@ -7,7 +7,7 @@ ghost use Rattle.up_text.specs.Comments.{is_comment, unless_comment, mode_of, wi
 use crate::lexer::bytes::{is_blank, is_quote};
 use std::alloc::{AllocError, Global};
 
-/// Where a byte stands: outside quotes and comments; in a comment; after a backslash; between a backslash and a line end; in a piece
+/// The context of a byte: outside quotes and comments; in a comment; after a backslash; between a backslash and a line end; in a piece
 /// quoted by this byte; after a backslash there.
 #[derive(Clone, Copy)]
 enum Standing {
@@ -26,7 +26,7 @@ fn begins_feed(bytes: &[u8]) -> bool
     bytes.first() == Some(&b'\n')
 }
 
-// Where the byte after one outside quotes and comments stands.
+// The context after a byte outside quotes and comments.
 #[tactic(auto, unfolding(crate::specs::Tokens::is_hash, crate::specs::Tokens::is_backslash))]
 fn after_outside(byte: u8, rest: &[u8]) -> Standing
     ensures { mode_of result ≡ without_joining (mode_outside false byte rest.now) }
@@ -48,7 +48,7 @@ fn after_outside(byte: u8, rest: &[u8]) -> Standing
     }
 }
 
-// Where the byte after one in a piece quoted by `quote` stands.
+// The context after a byte in a piece quoted by `quote`.
 #[tactic(auto, unfolding(crate::specs::Tokens::is_line_feed, crate::specs::Tokens::is_backslash))]
 fn after_quoted(quote: u8, byte: u8, rest: &[u8]) -> Standing
     ensures { mode_of result ≡ without_joining (mode_quoted quote false byte rest.now) }
@@ -68,7 +68,7 @@ fn after_quoted(quote: u8, byte: u8, rest: &[u8]) -> Standing
     }
 }
 
-// Where the next byte stands.
+// The context of the next byte.
 #[tactic(auto, unfolding(crate::specs::Tokens::is_line_feed))]
 fn after(standing: Standing, byte: u8, rest: &[u8]) -> Standing
     ensures { mode_of result ≡ without_joining (mode_after (mode_of standing) byte rest.now) }
@@ -100,7 +100,7 @@ fn is_comment(standing: Standing, byte: u8) -> bool
     }
 }
 
-// Appends the byte, where it belongs to no comment.
+// Appends the byte unless it belongs to a comment.
 fn keep(bytes: &mut Vec<u8>, standing: Standing, byte: u8) -> Result<(), AllocError>
     ensures { OnOk result (bytes.new.items ≡ bytes.old.items ++ unless_comment (mode_of standing) byte) }
 {

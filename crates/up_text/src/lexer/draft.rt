@@ -1,4 +1,4 @@
-//! A text under way.
+//! A text under construction.
 ghost use Rattle.std.specs.Prelude.{◌≡◌, ◌++◌, ◌⊎◌, ℕ, List, [], Some, None, IfOk, if◌then◌else◌, string_bytes};
 ghost use Rattle.up_value.specs.Values.{Bytes};
 ghost use Rattle.up_text.specs.Lexer.{Holds};
@@ -7,8 +7,8 @@ use std::alloc::{AllocError, Global};
 use std::marker::Model;
 use up_value::Text;
 
-/// A text under way. Where memory is refused it only keeps that in mind, so that what stands after is still read, and a fault
-/// there comes before that memory ran out.
+/// A text under construction. Running out of memory is only noted here, so that the rest is still read, and a fault there is reported
+/// instead of `Memory`.
 #[derive(Debug, Drop)]
 pub struct Draft {
     text: String,
@@ -35,7 +35,6 @@ impl Draft {
         }
     }
 
-    /// Appends this part.
     pub(crate) fn push(&mut self, part: &str)
         ensures { (bytes : Bytes) → Holds self.old bytes → Holds self.new (bytes ++ part.now) }
     {
@@ -55,7 +54,7 @@ impl Draft {
     }
 }
 
-/// Appends a quote or a backslash if such are kept.
+/// Appends a quote or a backslash if `keep` is set.
 pub(crate) fn push_quoting(out: &mut Draft, part: &str, keep: bool)
     ensures { (bytes : Bytes) → Holds out.old bytes
         → Holds out.new (bytes ++ (if keep then part.now else [])) }

@@ -1,4 +1,4 @@
-//! What stands between two tokens.
+//! The gap between two tokens.
 ghost use Rattle.std.specs.Prelude.{◌≡◌, ◌+◌, ◌<◌, ◌≤◌, ◌^◌, ℕ, Bool, true, false, length};
 ghost use Rattle.up_text.specs.Lexer.{begins_gap, passes_feeds, place, IsAfterGap, GapRun};
 
@@ -6,7 +6,7 @@ use crate::lexer::bytes::{
     begins_blank, begins_comment, begins_feed, begins_gap, split_blanks, split_first, split_line,
 };
 
-// The text after the part of a gap that it begins with, and its line.
+// The line and the text after the first part of a gap.
 fn pass_part(text: &str, line: u32, passes: bool) -> (u32, &str)
     requires in_gap { begins_gap passes text.now ≡ true }
     requires in_range { line + length text.now < 2 ^ 32 }
@@ -26,8 +26,8 @@ fn pass_part(text: &str, line: u32, passes: bool) -> (u32, &str)
     (line + 1, split_first(split_first(text).1).1)
 }
 
-/// The text after the gap that it begins with, and its line. Line feeds are part of the gap outside a stanza and while a
-/// parenthesis is open.
+/// The line and the text after the gap that the text begins with. Line feeds are part of the gap outside a stanza and while a parenthesis
+/// is open.
 pub(crate) fn after_gap(text: &str, line: u32, inside: bool, depth: u32) -> (u32, &str)
     requires { line + length text.now < 2 ^ 32 }
     ensures passed { (parens : Bool)

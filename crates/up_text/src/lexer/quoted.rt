@@ -21,14 +21,14 @@ fn begins_byte(text: &str, byte: u8) -> bool
     }
 }
 
-// Whether a line end stands here, escaped or not.
+// Whether the text begins with a line end, escaped or not.
 fn begins_fold(text: &str) -> bool
     ensures { result ≡ begins_fold text.now }
 {
     begins_feed(text) || begins_joint(text)
 }
 
-/// Appends the character after a backslash, and gives what stands after it, or nothing if the text ends at the backslash.
+/// Appends the character after a backslash, and returns the rest after it, or `None` if the text ends at the backslash.
 pub(crate) fn push_escape<'a>(out: &mut Draft, text: &'a str, keep: bool) -> Option<&'a str>
     requires { begins is_backslash text.now ≡ true }
     ensures { IsEscape keep text.now out.old out.new result }
@@ -58,7 +58,7 @@ fn push_blanks<'a>(out: &mut Draft, text: &'a str, joined: bool) -> &'a str
     rest
 }
 
-// Appends the one space of a run, unless it was appended.
+// Appends a space, unless the space of this run was already appended.
 fn push_space(out: &mut Draft, joined: bool)
     ensures { (bytes : Bytes) → Holds out.old bytes
         → Holds out.new (bytes ++ (if joined then [] else 32 ∷ [])) }
@@ -68,7 +68,7 @@ fn push_space(out: &mut Draft, joined: bool)
     }
 }
 
-// Passes a line end, which is one space unless it is joined with one before.
+// Passes a line end, which becomes one space unless it is joined with one before.
 fn push_line_end<'a>(out: &mut Draft, text: &'a str, joined: bool) -> &'a str
     requires { begins_fold text.now ≡ true }
     ensures run { (parens keep : Bool) (quote line : ℕ) → is_quote quote ≡ true
@@ -84,7 +84,7 @@ fn push_line_end<'a>(out: &mut Draft, text: &'a str, joined: bool) -> &'a str
     }
 }
 
-// Appends one part of a quoted piece. Gives the line and the text after it, and whether blanks there are joined with a line end.
+// Appends one part of a quoted piece. Returns the line and the text after it, and whether blanks there are joined with a line end.
 fn push_part<'a>(
     out: &mut Draft,
     text: &'a str,
@@ -122,7 +122,7 @@ fn push_part<'a>(
     Ok((line, rest, false))
 }
 
-/// Appends a quoted piece from after its opening quote on, and gives the line and the text after its closing quote.
+/// Appends a quoted piece from after its opening quote on, and returns the line and the text after its closing quote.
 pub(crate) fn push_quoted<'a>(
     out: &mut Draft,
     text: &'a str,

@@ -19,7 +19,7 @@ fn is_script(word: &str) -> bool
     word == "script"
 }
 
-// Whether this is no word, or one that begins a comment.
+// Whether this may follow `end script`: no word, or one that begins a comment.
 #[tactic(auto, unfolding(crate::specs::Tokens::is_hash))]
 fn may_follow(word: &str) -> bool
     ensures { result ≡ may_follow word.now }
@@ -30,7 +30,7 @@ fn may_follow(word: &str) -> bool
     }
 }
 
-// Whether the line ends a script.
+// Whether the line ends a script: `end script`.
 fn is_end_line(line: &str) -> bool
     ensures { result ≡ is_end_line line.now }
 {
@@ -47,7 +47,7 @@ fn is_end_line(line: &str) -> bool
     may_follow(third)
 }
 
-// The first line with its line feed, what stands after it, and how many line feeds it has.
+// The first line with its line feed, the rest after it, and the number of its line feeds, 0 or 1.
 fn split_line(text: &str) -> (&str, &str, u32)
     requires { 0 < length text.now }
     ensures { BeginsLine text.now result.0.now result.1.now result.2 }
@@ -61,7 +61,7 @@ fn split_line(text: &str) -> (&str, &str, u32)
     }
 }
 
-/// The script's lines, the text after its end line and the line there, if there is an end line.
+/// The script's lines, and the text and the line after its end line, or `None` if there is no end line.
 pub(crate) fn find_end(text: &str, line: u32) -> Option<(&str, &str, u32)>
     requires { line + length text.now < 2 ^ 32 }
     ensures { MatchOption result (script_in (lines_of text.now)

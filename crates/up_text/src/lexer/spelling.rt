@@ -1,4 +1,4 @@
-//! The spelling of a token, and of what is written between the blanks of a command.
+//! The spelling of a token, and of the words between the blanks of a command.
 ghost use Rattle.std.specs.Prelude.{◌≡◌, ◌+◌, ◌<◌, ◌≤◌, ◌^◌, ◌++◌, ℕ, Bool, true, false, length, IfOk, MatchOption, MatchResult};
 ghost use Rattle.std.specs.List.{list_all};
 ghost use Rattle.up_text.specs.Tokens.{Outside, is_quote};
@@ -15,7 +15,7 @@ use crate::token::Token;
 use std::alloc::{AllocError, Global};
 use up_value::{Text, TextFault};
 
-// The quote that the text begins with.
+// The quote that the text begins with, if any.
 fn first_quote(text: &str) -> Option<u8>
     ensures { MatchOption result (begins is_quote text.now ≡ false) (λ quote. (is_quote quote ≡ true)
         × (begins (is_byte quote) text.now ≡ true)) }
@@ -32,7 +32,7 @@ fn first_quote(text: &str) -> Option<u8>
     }
 }
 
-// Appends one part of a spelling: a character after a backslash, a quoted piece, or bytes that stand for themselves.
+// Appends one part of a spelling: a character after a backslash, a quoted piece, or ordinary bytes.
 fn push_piece<'a>(
     out: &mut Draft,
     text: &'a str,
@@ -67,7 +67,7 @@ fn push_piece<'a>(
     }
 }
 
-/// Appends the rest of a spelling, and gives the line and the text after it. With `keep` its quotes and backslashes stay.
+/// Appends the rest of a spelling, and returns the line and the text after it. With `keep` its quotes and backslashes stay.
 pub(crate) fn push_spelling<'a>(
     out: &mut Draft,
     text: &'a str,
@@ -103,7 +103,7 @@ fn make_token(alloc: Global, line: u32, text: &str) -> Result<Token, AllocError>
     })
 }
 
-// The token whose spelling begins with bytes that stand for themselves and goes on with a quote or a backslash.
+// The token whose spelling begins with ordinary bytes and continues with a quote or a backslash.
 fn spell<'a>(
     alloc: Global,
     ordinary: &str,
@@ -133,7 +133,7 @@ fn spell<'a>(
     Ok((token, reached, rest))
 }
 
-// The token that the text begins with, which is no parenthesis, and the line and the text after it.
+// The token that the text begins with, which isn't a parenthesis, and the line and the text after it.
 fn read_word<'a>(
     alloc: Global,
     text: &'a str,
@@ -155,7 +155,7 @@ fn read_word<'a>(
     Ok((token, line, rest))
 }
 
-// How many parentheses are open after this one.
+// The number of parentheses that are open after this one.
 fn open_after_paren(text: &str, depth: u32) -> u32
     requires { depth + length text.now < 2 ^ 32 }
     ensures { result ≡ open_at text.now depth }
@@ -167,7 +167,7 @@ fn open_after_paren(text: &str, depth: u32) -> u32
     }
 }
 
-/// The token that the text begins with, the line and the text after it, and how many parentheses are open there.
+/// The token that the text begins with, the line and the text after it, and the number of parentheses that are open there.
 pub(crate) fn read_token<'a>(
     alloc: Global,
     text: &'a str,
