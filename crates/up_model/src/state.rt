@@ -21,7 +21,7 @@ impl Goal {
         }
     }
 
-    /// The goal as a client reads it.
+    /// The goal in a status text.
     pub fn name(self) -> &'static str
         ensures { result.now ≡ goal_name self }
     {
@@ -82,7 +82,7 @@ impl State {
         }
     }
 
-    /// The state as a client reads it.
+    /// The state in a status text.
     pub fn name(self) -> &'static str
         ensures { result.now ≡ state_name self }
     {
