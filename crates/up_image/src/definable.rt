@@ -236,6 +236,7 @@ fn are_ascending(jobs: &[JobDef]) -> bool
     true
 }
 
+/// Whether files can define these jobs.
 #[tactic(auto, unfolding(crate::specs::Definable::are_definable))]
 pub(crate) fn are_definable(alloc: Global, jobs: &[JobDef]) -> Result<bool, AllocError>
     ensures { IfOk result (λ can. can ≡ definable.are_definable jobs.now) }

@@ -137,7 +137,7 @@ fn is_shallow(branch: &Branch, depth: u16) -> bool
     }
 }
 
-// Always true: no expression has more nodes.
+// Always true: no expression has more than `MAX_NODES` nodes.
 fn is_short(condition: &Condition) -> bool
     ensures { result ≡ is_short (Some condition.now) }
 {

@@ -115,6 +115,7 @@ fn set_length_in(bytes: &mut Vec<u8>)
     set_length(bytes.as_mut_slice());
 }
 
+/// The image of jobs that have one.
 #[tactic(auto, using(crate::proofs::Images::parts_of, crate::proofs::Images::written_of))]
 pub(crate) fn write_image(alloc: Global, jobs: &[JobDef]) -> Result<Vec<u8>, AllocError>
     requires { has_image jobs.now ≡ true }

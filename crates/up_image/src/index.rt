@@ -244,6 +244,7 @@ fn put_entries(out: &mut Vec<u8>, runs: &[&[Place]]) -> Result<(), AllocError>
     Ok(())
 }
 
+/// Appends the index of jobs.
 #[tactic(auto, unfolding(crate::specs::Index::entries_of))]
 pub(crate) fn put_index(alloc: Global, out: &mut Vec<u8>, jobs: &[JobDef]) -> Result<(), AllocError>
     requires { length jobs.now ≤ MAX_JOBS }

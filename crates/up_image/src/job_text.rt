@@ -21,7 +21,7 @@ struct Draft {
 }
 
 impl Draft {
-    // Adds a stanza, to the override if `over` or if the first file has no room; returns whether it did so.
+    // Adds a stanza, to the override if `over` or if the first file has no room; returns whether it went there.
     fn add(&mut self, stanza: &str, over: bool) -> Result<bool, AllocError> {
         if over || stanza.len() > MAX_FILE.saturating_sub(self.conf.len()) {
             self.over.push_str(stanza)?;

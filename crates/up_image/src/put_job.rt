@@ -110,6 +110,7 @@ pub(crate) fn job_len(out: &mut Vec<u8>, job: &JobDef) -> Result<usize, AllocErr
     Ok(out.len())
 }
 
+/// Appends jobs as an image has them.
 pub(crate) fn put_jobs(out: &mut Vec<u8>, jobs: &[JobDef]) -> Result<(), AllocError>
     ensures { OnOk result (out.new.items ≡ out.old.items ++ flat_map (job_part Two) jobs.now) }
 {

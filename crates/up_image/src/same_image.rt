@@ -1,4 +1,4 @@
-//! Checks whether bytes are the image of jobs, without the whole image in memory: each part is written, compared and freed.
+//! Checks whether bytes are the image of jobs, without the whole image in memory: each part is written, compared and dropped.
 ghost use Rattle.std.specs.Prelude.{◌≡◌, ◌++◌, ◌≤◌, Decides, IfOk, List, MatchOption, length, ℕ};
 ghost use Rattle.std.specs.List.{flat_map};
 ghost use Rattle.up_image.specs.declared.limits.TheConstants.{MAX_JOBS};

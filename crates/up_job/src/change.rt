@@ -77,6 +77,7 @@ fn enter(instance: &mut Instance, state: State)
     instance.kill_moment = None;
 }
 
+/// Applies a change to an instance.
 pub(crate) fn apply(instance: &mut Instance, change: Change)
     ensures { instance.new ≡ changed change instance.old }
 {

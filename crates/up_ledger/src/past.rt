@@ -253,7 +253,7 @@ impl Past {
         }
     }
 
-    /// These jobs come into force. The events that the `start on` of those before keep are released.
+    /// These jobs come into force. The events that the `start on` of those before keep are released; instances continue.
     pub(crate) fn load(&mut self, alloc: Global, files: &[JobFile]) -> Result<(), AllocError>
         requires { AreInOrder name_of files.now }
         ensures { OnOk result ((config : Configuration) (c : Chronicle) (jobs : List JobValue)

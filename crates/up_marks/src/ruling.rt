@@ -15,7 +15,7 @@ use up_image::{JobFile, Place};
 use up_model::Event;
 use up_text::{Env, Name, Text};
 
-// The most keys that are few.
+// The most variables that are looked at one by one.
 const FEW: usize = 8;
 
 // A byte that neither an expansion nor a pattern reads as anything but itself.

@@ -71,6 +71,7 @@ fn wanting(alloc: Global, jobs: &[JobFile], place: &Place) -> Result<Wanted, All
     Ok(Wanted { value, place })
 }
 
+/// The leaves at these places of a table, each with the value that it wants.
 pub(crate) fn wanting_each(
     alloc: Global,
     jobs: &[JobFile],
