@@ -101,8 +101,8 @@ fn counts(goal: Goal, state: State) -> bool
     }
 }
 
-/// What the end or the refusal of a process does. `task` and `respawn` are whether the job has these stanzas, `normal` is whether `normal
-/// exit` lists the end, and `may` is whether the respawn limit allows one more (init(5)).
+/// What the end or the refusal of a process does. `task` and `respawn` are whether the job has these stanzas, `normal` is whether
+/// `normal exit` lists the end, and `may` is whether the respawn limit allows one more (init(5)).
 pub fn judge_end(
     goal: Goal,
     state: State,

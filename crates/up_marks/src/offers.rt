@@ -12,7 +12,7 @@ use up_image::Place;
 use up_model::{Event, EventId};
 use up_text::Env;
 
-// Makes the leaf at a place keep an event that is new to it. Returns the number of leaves that do.
+// Makes the leaf at a place keep an event, if that is new to it. Returns the number of leaves that do.
 fn offer_to_one(
     alloc: Global,
     condition: &Condition,
@@ -70,7 +70,7 @@ fn offer_to_all(
     Ok(matched.len())
 }
 
-/// Makes the leaves at these places keep an event that is new to them. Returns the number of leaves that do.
+/// Makes the leaves at these places keep an event, if that is new to them. Returns the number of leaves that do.
 pub(crate) fn offer_to(
     alloc: Global,
     condition: &Condition,
