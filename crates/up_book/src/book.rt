@@ -1,4 +1,4 @@
-//! What an engine keeps of the past, whatever that is.
+//! What an engine keeps of the past, in whatever form.
 ghost use Rattle.std.specs.Prelude.{◌≡◌, ◌≤◌, ◌<◌, ℕ, true, false, List, ◌∷◌, ◌++◌, [], map, length, Option, None, Some, is_some, option_map, OnOk, IsOk, IfOk, IfSome};
 ghost use Rattle.std.specs.Option.{option_copied, option_map_or};
 ghost use Rattle.up_book.specs.declared.holders.Holders.{Holders as HoldersValue};
@@ -46,11 +46,11 @@ use up_job::InstanceKey;
 use up_model::{Answer, Event, EventId, Failure, Goal, Input, Output, Process, State};
 use up_text::{Env, Items, Text};
 
-/// What an engine keeps of the past: what it must still know, and what a step asks for. An engine begins a step with `begin_step`, reports
-/// what the input causes, entry by entry, and ends the step with `end_step`.
+/// What an engine keeps of the past: what it must still know, and the outputs of a step. An engine begins a step by `begin_step`, then
+/// reports what follows, entry by entry, and ends the step by `end_step`.
 ///
 /// A job is named by its index in the table, and an instance by its index among those of its job, in byte order of their names: so `make`
-/// and `leave` change which instance a key stands for.
+/// and `leave` change which instance a key means.
 pub trait Book: Drop {
     ghost stands: { Self → Mode → Configuration → Chronicle → Type 0 };
 
@@ -70,22 +70,22 @@ pub trait Book: Drop {
         ensures { (mode : Mode) (config : Configuration) → OfInstance (stands self.now mode) config key (λ c i.
             result ≡ read.was_restarted i c) };
 
-    /// What clients read of an instance.
+    /// The status text of an instance for clients.
     fn status_of(&self, key: InstanceKey) -> Result<Text, AllocError>
         ensures { IfOk result (λ text. (mode : Mode) (config : Configuration)
             → OfInstance (stands self.now mode) config key (λ c i. text ≡ replies.status_of i c)) };
 
-    /// What the clock reads.
+    /// The reading of the clock, in milliseconds.
     fn now(&self) -> u64
         ensures { (mode : Mode) (config : Configuration) (c : Chronicle) → stands self.now mode config c
             → result ≡ clock.now c };
 
-    /// The job file by which an instance was made.
+    /// The job file from which an instance was made.
     fn file(&self, key: InstanceKey) -> Option<&JobFile>
         ensures { (mode : Mode) (config : Configuration) → OfInstance (stands self.now mode) config key (λ c i.
             option_copied result ≡ read.file_of i c) };
 
-    /// Whether the limit of its file allows one respawn more of an instance (init(5), `respawn limit`).
+    /// Whether the limit in its file allows one more respawn of an instance (init(5), `respawn limit`).
     fn may_respawn(&self, key: InstanceKey) -> bool
         ensures { (mode : Mode) (config : Configuration) (c : Chronicle) (i : ℕ) (job : JobValue)
             → stands self.now mode config c
@@ -104,7 +104,7 @@ pub trait Book: Drop {
         ensures { (mode : Mode) (config : Configuration) (c : Chronicle) → stands self.now mode config c
             → clock.now c < result → clock.all_overdue (names_in_order config c) c ≡ [] };
 
-    /// The alarm is set to the earliest reading at which the timer kills somebody. It takes no memory, and looks at each instance.
+    /// Sets the alarm to the earliest reading at which the timer kills somebody. Takes no memory, and looks at each instance.
     fn set_alarm(&mut self)
         ensures { (mode : Mode) (config : Configuration) (c : Chronicle) → stands self.old mode config c
             → stands self.new mode config c };
@@ -114,7 +114,7 @@ pub trait Book: Drop {
         ensures { (mode : Mode) (config : Configuration) → OfInstance (stands self.now mode) config key (λ c i.
             option_map_or (λ env. env.now) result [] ≡ read.env i c) };
 
-    /// Why an instance failed since it entered starting last.
+    /// Why an instance failed since it last entered starting.
     fn failure(&self, key: InstanceKey) -> Option<Failure>
         ensures { (mode : Mode) (config : Configuration) → OfInstance (stands self.now mode) config key (λ c i.
             result ≡ read.failure i c) };
@@ -129,23 +129,19 @@ pub trait Book: Drop {
         ensures { (mode : Mode) (config : Configuration) → OfInstance (stands self.now mode) config key (λ c i.
             result ≡ read.is_awaited i process c) };
 
-    /// Whether a process lives.
     fn lives(&self, key: InstanceKey, process: Process) -> bool
         ensures { (mode : Mode) (config : Configuration) → OfInstance (stands self.now mode) config key (λ c i.
             result ≡ read.lives i process c) };
 
-    /// How many instances a job has.
     fn count(&self, job: usize) -> usize
         ensures { (mode : Mode) (config : Configuration) (c : Chronicle) (its : Bytes)
             → stands self.now mode config c
             → name_at config job ≡ Some its → result ≡ length (instances_of its c) };
 
-    /// The name of an instance.
     fn name(&self, key: InstanceKey) -> &str
         ensures { (mode : Mode) (config : Configuration) → OfWhole (stands self.now mode) config key (λ c its.
             result.now ≡ its.name) };
 
-    /// The instance of a job that has a name.
     fn find(&self, job: usize, name: &str) -> Option<InstanceKey>
         ensures place { (mode : Mode) (config : Configuration) (c : Chronicle) (its : Bytes)
             → stands self.now mode config c → name_at config job ≡ Some its
@@ -153,30 +149,28 @@ pub trait Book: Drop {
             ≡ option_map Some (instance_named (called its name.now) c) }
         ensures job { IfSome result (λ key. key.job ≡ job) };
 
-    /// An event that hasn't finished.
     fn event_at(&self, key: EventId) -> Option<&Event>
         ensures { (mode : Mode) (config : Configuration)
             → OfEvent (stands self.now mode) (event_place self.now) config key (λ c e.
             option_copied result ≡ read.event_at e c) };
 
-    /// Whether an instance that held an event let it go as failed.
+    /// Whether an instance that held an event released it as failed.
     fn is_spoilt(&self, key: EventId) -> bool
         ensures { (mode : Mode) (config : Configuration)
             → OfEvent (stands self.now mode) (event_place self.now) config key (λ c e.
             result ≡ held.is_spoilt e c) };
 
-    /// How many events haven't finished.
     fn live_events(&self) -> usize
         ensures { (mode : Mode) (config : Configuration) (c : Chronicle) → stands self.now mode config c
             → result ≡ length (queue.queue c) };
 
-    /// What a turn would do with which event, between two steps.
+    /// What the next turn would do with which event, between two steps.
     fn turn(&self) -> Option<(EventId, TurnKind)>
         ensures { (config : Configuration) (c : Chronicle) → stands self.now Resting config c
             → turn_at (event_place self.now c) result
             ≡ option_map Some (turn_event config (queue.queue c) c) };
 
-    /// A step begins with an input; one of a process speaks of this instance, if it exists. Takes no memory.
+    /// A step begins with an input; if that is about a process, `on` is its instance, if it exists. Takes no memory.
     fn begin_step(&mut self, input: &Input, on: Option<InstanceKey>)
         ensures after { (config : Configuration) (c : Chronicle)
             → stands self.old Resting config c → SpeaksOf config on input.now c
@@ -205,9 +199,9 @@ pub trait Book: Drop {
             → OfEvent (stands self.old Stepping) (event_place self.old) config key (λ c e.
             KeepsPlaces event_place self.old self.new c (entry.Handled e ∷ c)) };
 
-    /// An event that nobody holds leaves the queue, and the client that waits for it is answered; an event that tells that it was spoilt
-    /// goes to the end, if there is one. Returns the instance that waited for it, if one did. Takes no memory if no client waits and there is
-    /// no such event.
+    /// An event that nobody holds leaves the queue, and the client that waits for it is answered; `told`, which reports that it was
+    /// spoilt, goes to the end, if there is one. Returns the instance that waited for it, if one did. Takes no memory if no client waits
+    /// and there is no `told`.
     fn finish(
         &mut self,
         key: EventId,
@@ -232,7 +226,7 @@ pub trait Book: Drop {
             → OfInstance (stands self.old Stepping) config key (λ c i. is_waiting state ≡ false
             → KeepsPlaces event_place self.old self.new c (entry.Entered i state ∷ c))) };
 
-    /// An instance enters waiting, with its last event, lets its holders go, and is gone.
+    /// An instance enters waiting, with its last event, releases its holders, and is removed.
     fn leave(&mut self, key: InstanceKey, event: Event) -> Result<(), AllocError>
         ensures after { OnOk result ((config : Configuration) → OfInstance (stands self.old Stepping) config key (λ c i.
             stands self.new Stepping config (after_leaving i event c))) }
@@ -269,12 +263,11 @@ pub trait Book: Drop {
         ensures { OnOk result ((config : Configuration) → OfInstance (stands self.old Stepping) config key
             (λ c i. stands self.new Stepping config (entry.Signalled i clock.kill true ∷ c))) };
 
-    /// Main of an instance is respawned.
     fn respawn(&mut self, key: InstanceKey) -> Result<(), AllocError>
         ensures { OnOk result ((config : Configuration) → OfInstance (stands self.old Stepping) config key
             (λ c i. stands self.new Stepping config (entry.Respawned i (clock.now c) ∷ c))) };
 
-    /// An instance lets its holders go; clients among them are answered.
+    /// An instance releases its holders; clients among them are answered.
     fn release(&mut self, key: InstanceKey) -> Result<(), AllocError>
         ensures after { OnOk result ((config : Configuration) → OfInstance (stands self.old Stepping) config key (λ c i.
             stands self.new Stepping config (replies.releasing i false c ++ c))) }
@@ -302,7 +295,6 @@ pub trait Book: Drop {
             → HoldersAt (event_place self.old) holders places c
             → KeepsPlaces event_place self.old self.new c (entry.Aimed i goal environment places ∷ c)) };
 
-    /// A restart of an instance is taken, with these holders.
     fn restart(&mut self, key: InstanceKey, holders: Holders) -> Result<(), AllocError>
         ensures { OnOk result ((config : Configuration) (c : Chronicle) (i : ℕ) (places : List ℕ)
             → stands self.old Stepping config c → instance_place config c key ≡ Some i
@@ -314,13 +306,13 @@ pub trait Book: Drop {
         ensures { OnOk result ((config : Configuration) → OfInstance (stands self.old Stepping) config key
             (λ c i. stands self.new Stepping config (entry.Aimed i goal_stop [] (read.holders i c) ∷ c))) };
 
-    /// An instance fails: that is kept, and it lets its holders go as failed; clients among them are answered.
+    /// An instance fails: that is kept, and it releases its holders as failed; clients among them are answered.
     fn fail(&mut self, key: InstanceKey, failure: Failure) -> Result<(), AllocError>
         ensures { OnOk result ((config : Configuration) → OfInstance (stands self.old Stepping) config key
             (λ c i. stands self.new Stepping config (replies.releasing i true (entry.Failed i failure ∷ c) ++
             entry.Failed i failure ∷ c))) };
 
-    /// The job at an index of the table gets an instance of this name, which it didn't have, by this file of it.
+    /// Makes an instance of this name, which the job at an index of the table didn't have, from this file of the job.
     fn make(&mut self, index: usize, file: &JobFile, name: &str) -> Result<InstanceKey, AllocError>
         ensures after { OnOk result ((config : Configuration) (c : Chronicle)
             → stands self.old Stepping config c → job_at config index ≡ Some file.now
@@ -340,7 +332,7 @@ pub trait Book: Drop {
             → KeepsPlaces event_place self.old self.new c (entry.Made file.now name.now ∷ c)) };
 
     /// These jobs come into force, in byte order of names: by a load, in a step in which no request has acted on an instance. What each
-    /// `start on` had seen is forgotten, and instances go on by their own files.
+    /// `start on` had seen is forgotten, and instances continue with their own files.
     fn load(&mut self, files: &[JobFile]) -> Result<(), AllocError>
         requires { AreInOrder name_of files.now }
         ensures { OnOk result ((config : Configuration) (c : Chronicle) (jobs : List JobValue)
@@ -348,15 +340,15 @@ pub trait Book: Drop {
             → files.now ≡ (with_jobs jobs config c).jobs
             → stands self.new Stepping (with_jobs jobs config c) (entry.Loaded jobs ∷ c)) };
 
-    /// The first job of the table, from an index on, with an expression that names an event, or an instance whose own `stop on` does, by
-    /// a leaf without a literal value that rules the event out. Takes no memory.
+    /// The first job of the table, at or after `from`, with an expression that names an event, or an instance whose own `stop on` does,
+    /// in a leaf without a literal value that rules the event out. Takes no memory.
     fn next_hearer(&self, jobs: &[JobFile], event: EventId, from: usize) -> Option<usize>
         ensures next { (config : Configuration) (c : Chronicle) (e : ℕ) → stands self.now Stepping config c
             → jobs.now ≡ config.jobs
             → event_place self.now c event ≡ Some e → IsNextHearer config (read.event_at e c) c from result }
         ensures later { IfSome result (λ next. from ≤ next) };
 
-    /// No two instances of a job have one name. Does nothing.
+    /// No two instances of a job have the same name. Does nothing.
     fn names_differ(&self)
         ensures { (mode : Mode) (config : Configuration) (c : Chronicle) → stands self.now mode config c → Singles c };
 
@@ -373,7 +365,7 @@ pub trait Book: Drop {
         ensures events { (c : Chronicle) (x : ExpressionValue) (e : ℕ) (k : EventIdValue)
             → event_place self.now (entry.Offered x e ∷ c) k ≡ event_place self.now c k };
 
-    /// An event is offered to the `stop on` of an instance; returns whether that is true then.
+    /// Offers an event to the `stop on` of an instance; returns whether that is then true.
     fn offer_stop(
         &mut self,
         file: &JobFile,
@@ -396,8 +388,8 @@ pub trait Book: Drop {
             → read.file_of i c ≡ Some file.now → event_place self.old c event ≡ Some e
             → KeepsPlaces event_place self.old self.new c (entry.Offered (entry.StopOn i) e ∷ c)) };
 
-    /// An event is offered to the `start on` of the job at an index of the table, which has this environment; returns whether that is
-    /// true then.
+    /// Offers an event to the `start on` of the job at an index of the table, which has this environment; returns whether that is then
+    /// true.
     fn offer_start(
         &mut self,
         index: usize,
@@ -448,7 +440,7 @@ pub trait Book: Drop {
             → KeepsPlaces event_place self.old self.new c
             (entry.Fired (entry.StartOn job.now.name) (start_events config job.now c) ∷ c)) };
 
-    /// This step's client is answered, if it doesn't wait and wasn't answered yet; returns whether it was.
+    /// Answers this step's client, if it doesn't wait and wasn't answered yet; returns whether it did.
     fn reply_last(&mut self) -> Result<bool, AllocError>
         ensures after { OnOk result ((config : Configuration) (c : Chronicle)
             → stands self.old Stepping config c
@@ -457,7 +449,7 @@ pub trait Book: Drop {
             → stands self.old Stepping config c
             → replied ≡ is_filled (replies.answering_last c)) };
 
-    /// The step is over; returns what it asks for, in order. Takes no memory.
+    /// Ends the step; returns its outputs, in order. Takes no memory.
     fn end_step(&mut self) -> Vec<Output>
         ensures after { (config : Configuration) (c : Chronicle) → stands self.old Stepping config c
             → stands self.new Resting config c }
@@ -468,7 +460,7 @@ pub trait Book: Drop {
     ghost known: { (book : Self) (mode : Mode) (config : Configuration) (c : Chronicle) (job : Bytes)
         → stands book mode config c → job_named job config.jobs ≡ None → instances_of job c ≡ [] };
 
-    // no two jobs of the table have one name
+    // no two jobs of the table have the same name
     ghost distinct: { (book : Self) (mode : Mode) (config : Configuration) (c : Chronicle)
         → stands book mode config c → AreDistinct config.jobs };
 }

@@ -11,7 +11,7 @@ use up_job::{Instance, Instances};
 use up_marks::{Index, may_stop};
 use up_model::Event;
 
-// How many of these places are of earlier jobs.
+// The number of places of earlier jobs.
 fn earlier_len(places: &[Place], job: usize) -> usize
     requires { Rising 0 places.now }
     ensures earlier { IsPartitionPoint (λ place. nat_lt place.job job ≡ true)
@@ -30,7 +30,7 @@ fn one_stops(instances: &[Instance], event: &Event) -> bool
         .any(|instance| may_stop(&instance.file, event))
 }
 
-// The job of the first of these places with an instance that an event may stop. Each job is asked once.
+// The job of the first of these places with an instance that an event may stop. Checks each job once.
 fn first_other(instances: &Instances, places: &[Place], event: &Event, from: usize) -> Option<usize>
     requires { Rising 0 places.now }
     ensures { result ≡ first_from (has_stop instances.now event.now) from places.now }
@@ -48,7 +48,7 @@ fn first_other(instances: &Instances, places: &[Place], event: &Event, from: usi
     None
 }
 
-// The first job from one on that has one of these places, and an instance that an event may stop.
+// The first job at or after `from` that has one of these places, and an instance that an event may stop.
 fn next_other_in(
     instances: &Instances,
     places: &[Place],
@@ -62,7 +62,7 @@ fn next_other_in(
     first_other(instances, later, event, from)
 }
 
-/// The first job from one on that has places of the event in an index, and an instance that the event may stop. Takes no memory.
+/// The first job at or after `from` that has places of the event in an index, and an instance that the event may stop. Takes no memory.
 pub fn next_other(
     others: &Index,
     instances: &Instances,

@@ -2,7 +2,7 @@
 use up_model::EventId;
 use up_text::Items;
 
-/// Who holds an instance from a start, a stop or a restart on.
+/// Who holds an instance after a start, a stop or a restart.
 #[derive(Drop)]
 pub enum Holders {
     /// The events that an expression took, from left to right.

@@ -1,4 +1,4 @@
-//! What a book is: what an engine keeps of the past, and what it may be asked and told.
+//! A book: what an engine keeps of the past, and how it reads and changes that.
 #![tactic(auto)]
 
 mod book;

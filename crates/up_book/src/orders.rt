@@ -1,4 +1,4 @@
-//! The orders and the signals that an instance gives.
+//! The orders and the signals of an instance.
 ghost use Rattle.std.specs.Prelude.{◌≡◌, ◌∷◌, [], codes, IfOk, OnOk, Some};
 ghost use Rattle.std.specs.Option.{option_copied, option_map_or};
 ghost use Rattle.up_book.specs.Sending.{env_by, listed, order_by, signal_by};
@@ -25,7 +25,7 @@ fn who_of(job: &Name, kept: &Instance) -> Result<Who, AllocError>
     Ok(Who { job, instance })
 }
 
-// The words with which the shell gets a text.
+// The words that run a text in the shell.
 fn shell_words(alloc: Global, text: &Text) -> Result<Items<Text>, AllocError>
     ensures { IfOk result (λ words. words ≡ codes "/bin/sh" ∷ codes "-e" ∷ codes "-c" ∷ text.now ∷ []) }
 {
@@ -37,7 +37,6 @@ fn shell_words(alloc: Global, text: &Text) -> Result<Items<Text>, AllocError>
     Ok(Items::new(words))
 }
 
-// The words that run an action.
 fn argv_of(alloc: Global, action: &Action) -> Result<Items<Text>, AllocError>
     ensures { IfOk result (λ words. words ≡ model.argv_of action.now) }
 {
@@ -57,7 +56,6 @@ fn dir_of(alloc: Global, dir: &Text) -> Result<Text, AllocError>
     dir.copy()
 }
 
-/// What a process of a job runs.
 pub fn action_of(job: &JobDef, process: Process) -> Option<&Action>
     ensures { option_copied result ≡ action_of job.now process }
 {
@@ -106,7 +104,6 @@ fn env_of(alloc: Global, kept: &Instance, process: Process) -> Result<Env, Alloc
     Ok(env)
 }
 
-// The order for a process that runs this.
 fn order_for(
     alloc: Global,
     job: &JobDef,
@@ -146,7 +143,7 @@ fn order_with(
     Ok(order)
 }
 
-/// What is asked for by which a process of an instance is started, if its job has the process.
+/// The output that starts a process of an instance, if its job has the process.
 pub fn order_of(
     alloc: Global,
     job: &JobDef,
@@ -165,7 +162,7 @@ pub fn order_of(
     }
 }
 
-/// What is asked for by which main of an instance of a job of this name gets a signal, if it lives.
+/// The output that sends a signal to main of an instance of this job, if it lives.
 pub fn signal_of(job: &Name, kept: &Instance, signal: u8) -> Result<Option<Output>, AllocError>
     ensures { IfOk result (λ output. (places : Places) (its : JobValue) → its.name ≡ job.now
         → listed output ≡ signal_by its (view places kept.now) signal) }

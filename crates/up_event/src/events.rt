@@ -10,7 +10,7 @@ use std::alloc::{AllocError, Global};
 use std::marker::Model;
 use up_model::{Event, EventId};
 
-/// The live events, which contracts see as a list of them, the oldest first.
+/// The live events. Contracts see them as a list, oldest first.
 #[derive(Drop)]
 pub struct Events {
     nodes: Slab<Node>,
@@ -33,7 +33,6 @@ impl Model for Events {
 }
 
 impl Events {
-    /// No event.
     pub fn new(alloc: Global) -> Self
         ensures { result ≡ [] }
     {
@@ -44,7 +43,6 @@ impl Events {
         }
     }
 
-    /// How many events live.
     pub fn len(&self) -> usize
         ensures count { result ≡ length self.now }
         ensures distinct { AreDistinct self.now }
@@ -52,7 +50,6 @@ impl Events {
         self.nodes.len()
     }
 
-    /// The event that an id names.
     pub fn get(&self, id: EventId) -> &Event
         requires { IsLive id self.now }
         ensures { IsSomeAnd (named id self.now) (λ live. live.event ≡ result.now) }
@@ -60,7 +57,6 @@ impl Events {
         &self.nodes[id.key].live.event
     }
 
-    /// The live event that an id names, if it lives.
     pub fn find(&self, id: EventId) -> Option<&LiveEvent>
         ensures { option_copied result ≡ named id self.now }
     {
@@ -70,7 +66,7 @@ impl Events {
         }
     }
 
-    /// Adds an event, which is the newest, with the client that waits for it. Its id may be that of an event that finished.
+    /// Adds an event as the newest, with the client that waits for it. Its id may be that of an event that has finished.
     pub fn push(&mut self, event: Event, waiter: Option<u64>) -> Result<EventId, AllocError>
         ensures pushed { IfOk result (λ id. self.new ≡ self.old ++ new_live id event waiter ∷ []) }
         ensures fresh { IfOk result (λ id. named id self.old ≡ None) }
@@ -129,7 +125,6 @@ impl Events {
         nodes::release(&mut self.nodes, id.key, failed);
     }
 
-    /// Ends an event's life.
     pub fn finish(&mut self, id: EventId) -> Finished
         requires { MayFinish id self.old }
         ensures outcome { option_map outcome_of (named id self.old) ≡ Some result }

@@ -1,4 +1,4 @@
-//! A live event, and what becomes of it.
+//! A live event, and its outcome.
 ghost use Rattle.std.specs.Prelude.{◌≡◌};
 ghost use Rattle.up_event.specs.LiveEvents.{new_live, turn_of, outcome_of};
 
@@ -11,7 +11,7 @@ pub struct LiveEvent {
     pub event: Event,
     /// Whether a turn took it up.
     pub handled: bool,
-    /// How often it is held.
+    /// The number of its holds.
     pub holds: u128,
     /// Whether one of its holds failed.
     pub spoilt: bool,
@@ -28,7 +28,7 @@ pub enum TurnKind {
     Finish,
 }
 
-/// What is left of an event that finished.
+/// The outcome of an event that has finished.
 #[derive(Drop)]
 pub struct Finished {
     pub event: Event,
@@ -52,7 +52,6 @@ pub(crate) fn new_live(id: EventId, event: Event, waiter: Option<u64>) -> LiveEv
     }
 }
 
-/// The turn that is due for an event, if any.
 pub(crate) fn turn_of(live: &LiveEvent) -> Option<(EventId, TurnKind)>
     ensures { result ≡ turn_of live.now }
 {
@@ -65,7 +64,6 @@ pub(crate) fn turn_of(live: &LiveEvent) -> Option<(EventId, TurnKind)>
     }
 }
 
-/// What is left of an event.
 pub(crate) fn outcome_of(live: LiveEvent) -> Finished
     ensures { result ≡ outcome_of live }
 {

@@ -17,7 +17,7 @@ pub(crate) struct Node {
     pub(crate) newer: Option<usize>,
 }
 
-/// Gives the node at a key, if any, another newer neighbour.
+/// Sets the newer neighbour of the node at a key, if any.
 pub(crate) fn set_newer(nodes: &mut Slab<Node>, at: Option<usize>, newer: Option<usize>)
     requires { IfSome at (ContainsKey nodes.old) }
     ensures { Changes nodes.old nodes.new (with_newer at newer) }
@@ -27,7 +27,7 @@ pub(crate) fn set_newer(nodes: &mut Slab<Node>, at: Option<usize>, newer: Option
     }
 }
 
-/// Gives the node at a key, if any, another older neighbour.
+/// Sets the older neighbour of the node at a key, if any.
 pub(crate) fn set_older(nodes: &mut Slab<Node>, at: Option<usize>, older: Option<usize>)
     requires { IfSome at (ContainsKey nodes.old) }
     ensures { Changes nodes.old nodes.new (with_older at older) }
@@ -45,7 +45,6 @@ pub(crate) fn handle(nodes: &mut Slab<Node>, key: usize)
     nodes[key].live.handled = true;
 }
 
-/// Counts one more hold of the event at a key.
 pub(crate) fn hold(nodes: &mut Slab<Node>, key: usize)
     requires { IsSomeAnd (get nodes.old key) (λ node. node.live.holds + 1 < 2 ^ 128) }
     ensures { Changes nodes.old nodes.new (with_live key with_hold) }
@@ -53,7 +52,6 @@ pub(crate) fn hold(nodes: &mut Slab<Node>, key: usize)
     nodes[key].live.holds += 1;
 }
 
-/// Counts one hold less of the event at a key.
 pub(crate) fn release(nodes: &mut Slab<Node>, key: usize, failed: bool)
     requires { IsSomeAnd (get nodes.old key) (λ node. 0 < node.live.holds) }
     ensures { Changes nodes.old nodes.new (with_live key (without_hold failed)) }
@@ -109,7 +107,7 @@ pub(crate) fn take_out(nodes: &mut Slab<Node>, key: usize) -> Node
     node
 }
 
-/// An end of the queue after an event was taken out: the event on its inner side, if none stood beyond it.
+/// An end of the queue after an event was taken out: the event on its inner side, if there was none beyond it.
 pub(crate) fn end_without(
     beyond: Option<usize>,
     end: Option<usize>,

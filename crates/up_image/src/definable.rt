@@ -1,4 +1,4 @@
-//! Tells whether files can give jobs.
+//! Checks whether files can define jobs.
 ghost use Rattle.std.specs.Prelude.{◌≡◌, ◌≤◌, IfOk, drop, length, map};
 ghost use Rattle.std.specs.List.{list_all, list_any};
 ghost use Rattle.up_stanza.specs.Exits.{same_exit};
@@ -38,7 +38,6 @@ fn are_keys(keys: &[Text]) -> bool
     keys.iter().all(|key| is_key(key.as_str()))
 }
 
-// The keys of settings.
 fn keys_of(alloc: Global, settings: &[Setting]) -> Result<Vec<&[u8]>, AllocError>
     ensures { IfOk result (λ keys. map (λ key. key.now) keys.items
         ≡ map (λ setting. setting.key) settings.now) }
@@ -96,7 +95,6 @@ fn has_exit(exits: &[Exit], exit: Exit) -> bool
     exits.iter().any(|other| exit.is(*other))
 }
 
-// The exits from a place on.
 fn exits_from(exits: &[Exit], i: usize) -> &[Exit]
     requires { i ≤ length exits.now }
     ensures { result.now ≡ drop i exits.now }
@@ -104,7 +102,7 @@ fn exits_from(exits: &[Exit], i: usize) -> &[Exit]
     &exits[i..]
 }
 
-// Whether exits are distinct. It goes from the last one back, so that no more than there are different ones stand after each.
+// Whether exits are distinct. Goes backwards, so that each is compared with no more exits than there are different ones.
 fn are_apart(exits: &[Exit]) -> bool
     ensures { result ≡ definable.are_apart exits.now }
 {
@@ -238,7 +236,7 @@ fn are_ascending(jobs: &[JobDef]) -> bool
     true
 }
 
-/// Whether files can give these jobs.
+/// Whether files can define these jobs.
 #[tactic(auto, unfolding(crate::specs::Definable::are_definable))]
 pub(crate) fn are_definable(alloc: Global, jobs: &[JobDef]) -> Result<bool, AllocError>
     ensures { IfOk result (λ can. can ≡ definable.are_definable jobs.now) }

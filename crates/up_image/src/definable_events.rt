@@ -1,4 +1,4 @@
-//! Tells whether files can give an expression.
+//! Checks whether files can define an expression.
 ghost use Rattle.std.specs.Prelude.{◌≡◌, ◌-◌, Some};
 ghost use Rattle.std.specs.List.{list_all};
 ghost use Rattle.up_expr.specs.Values as values;
@@ -11,7 +11,7 @@ use up_expr::{Branch, Condition, Leaf, Node, Root, Test};
 use up_text::env::is_key;
 use up_text::{is_expandable, supported};
 
-// Whether a text is a key with a ! after it.
+// Whether a text is a key followed by `!`.
 fn is_negated_key(text: &str) -> bool
     ensures { result ≡ values.is_negated_key text.now }
 {
@@ -59,7 +59,7 @@ fn is_positional(test: &Test) -> bool
     matches!(test, Test::Place(_))
 }
 
-// Whether no positional value stands after a keyed one.
+// Whether no positional value comes after a keyed one.
 fn is_ordered(tests: &[Test]) -> bool
     ensures { result ≡ values.is_ordered tests.now }
 {
@@ -83,7 +83,7 @@ fn is_leaf(leaf: &Leaf) -> bool
         && leaf.values.as_slice().len() <= MAX_ITEMS
 }
 
-// Whether files can give a node, if it is a leaf.
+// Whether files can define a leaf. True of any other node.
 fn is_node(node: &Node) -> bool
     ensures { result ≡ definable.is_node node.now }
 {
@@ -99,7 +99,7 @@ fn are_nodes(nodes: &[Node]) -> bool
     nodes.iter().all(|node| is_node(node))
 }
 
-// Whether files can give each leaf of an expression.
+// Whether files can define each leaf of an expression.
 fn are_leaves(condition: &Condition) -> bool
     ensures { result ≡ definable.are_leaves condition.now }
 {
@@ -112,7 +112,7 @@ fn is_lone(branch: &Branch) -> bool
     matches!(branch.root(), Root::Leaf(_))
 }
 
-// Whether parentheses so deep are enough for an expression.
+// Whether an expression needs parentheses of at most this depth.
 #[cycle(depths)]
 fn is_shallow(branch: &Branch, depth: u16) -> bool
     ensures { result ≡ definable.is_shallow depth branch.now }
@@ -130,14 +130,14 @@ fn is_shallow(branch: &Branch, depth: u16) -> bool
     }
 }
 
-// Whether an expression has few nodes. Each has.
+// Always true: no expression has more than `MAX_NODES` nodes.
 fn is_short(condition: &Condition) -> bool
     ensures { result ≡ is_short (Some condition.now) }
 {
     condition.root().len() <= usize::from(MAX_NODES)
 }
 
-/// Whether files can give an expression, or that there is none.
+/// Whether files can define an expression, which may be absent.
 pub(crate) fn can_await(condition: &Option<Condition>) -> bool
     ensures { result ≡ definable.can_await condition.now }
 {

@@ -1,4 +1,4 @@
-//! Tells whether files can give a text.
+//! Checks whether files can define a text.
 ghost use Rattle.std.specs.Prelude.{◌≡◌, ◌≤◌, IfOk, length};
 ghost use Rattle.std.specs.List.{list_all};
 ghost use Rattle.std.specs.Str.{is_utf8};
@@ -13,7 +13,7 @@ use up_stanza::{has_shell, is_shell};
 use up_text::env::is_value;
 use up_text::{Lexer, Name, TextFault};
 
-// Each text is UTF-8.
+// Always true: a `str` is UTF-8.
 fn is_utf8(text: &str) -> bool
     ensures { result ≡ is_utf8 text.now }
 {
@@ -21,7 +21,7 @@ fn is_utf8(text: &str) -> bool
     true
 }
 
-/// Each name is one.
+/// Always true: a `Name` is valid.
 pub(crate) fn is_name(name: &Name) -> bool
     ensures { result ≡ is_name name.now }
 {
@@ -35,7 +35,7 @@ fn are_token_bytes(bytes: &[u8]) -> bool
     bytes.iter().all(|byte| *byte != 0 && *byte != b'\n')
 }
 
-/// Whether one token can say a text.
+/// Whether a text can be one token.
 pub(crate) fn is_token(text: &str) -> bool
     ensures { result ≡ definable.is_token text.now }
 {
@@ -62,7 +62,7 @@ pub(crate) fn is_word(text: &str) -> bool
     !text.is_empty() && is_utf8(text) && are_word_bytes(text.as_bytes())
 }
 
-// Whether a text is a script: the lexer finds an end line first after it.
+// Whether a text is a script: the first end line that the lexer finds is after it.
 #[tactic(auto, unfolding(crate::specs::Definable::is_script))]
 fn is_script(alloc: Global, text: &str) -> Result<bool, AllocError>
     requires { length text.now ≤ MAX_IMAGE }
@@ -79,7 +79,7 @@ fn is_script(alloc: Global, text: &str) -> Result<bool, AllocError>
     }
 }
 
-// Whether a text is a command's: the lexer reads it as itself.
+// Whether a text is a command: the lexer reads it unchanged.
 #[tactic(auto, unfolding(crate::specs::Definable::is_command))]
 fn is_command(alloc: Global, text: &str) -> Result<bool, AllocError>
     requires { length text.now ≤ MAX_IMAGE }
@@ -93,7 +93,7 @@ fn is_command(alloc: Global, text: &str) -> Result<bool, AllocError>
     }
 }
 
-// Whether a text is a command's that needs a shell.
+// Whether a text is a command that needs a shell.
 fn is_shell_command(alloc: Global, text: &str) -> Result<bool, AllocError>
     requires { length text.now ≤ MAX_IMAGE }
     ensures { IfOk result (λ command. command ≡ definable.is_shell_command text.now) }
@@ -115,7 +115,7 @@ fn is_exec(alloc: Global, text: &str) -> Result<bool, AllocError>
     }
 }
 
-// Whether a text is a script or what `exec` makes of a command. A script takes longer to tell.
+// Whether a text is a script or what `exec` makes of a command. The check for a script takes longer.
 fn is_for_shell(alloc: Global, text: &str) -> Result<bool, AllocError>
     requires { length text.now ≤ MAX_IMAGE }
     ensures { IfOk result (λ shell. shell ≡ definable.is_for_shell text.now) }
@@ -126,7 +126,7 @@ fn is_for_shell(alloc: Global, text: &str) -> Result<bool, AllocError>
     is_script(alloc, text)
 }
 
-/// Whether files can give a text to the shell.
+/// Whether files can define a text for the shell.
 pub(crate) fn is_shell_text(alloc: Global, text: &str) -> Result<bool, AllocError>
     ensures { IfOk result (λ shell. shell ≡ definable.is_shell_text text.now) }
 {

@@ -1,4 +1,4 @@
-//! Tells whether an image can say all of a table's jobs: how long their lists are, and the reload signals.
+//! Checks whether an image can hold all of a table's jobs: how long their lists are, and the reload signals.
 ghost use Rattle.std.specs.Prelude.{◌≡◌};
 ghost use Rattle.std.specs.List.{list_all};
 ghost use Rattle.up_image.specs.Image as image;
@@ -45,7 +45,7 @@ fn fits_condition(condition: &Option<Condition>) -> bool
     }
 }
 
-// Four bytes hold any such number.
+// Always true: four bytes hold any u32.
 fn fits_number(_number: u32) -> bool
     ensures { result ≡ image.fits_number _number }
 {
@@ -101,7 +101,7 @@ fn fits(version: Version, job: &JobDef) -> bool
     fits_numbers(version, job) && fits_lists(job) && fits_processes(job) && fits_events(job)
 }
 
-/// Whether a version can say all of each job.
+/// Whether an image of a version can hold all of each job.
 pub(crate) fn all_fit(version: Version, jobs: &[JobDef]) -> bool
     ensures { result ≡ list_all (image.fits version) jobs.now }
 {

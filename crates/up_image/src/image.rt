@@ -17,17 +17,17 @@ use byteorder::{BigEndian, ByteOrder};
 use std::alloc::{AllocError, Global};
 use up_conf::JobDef;
 
-/// How many bytes stand before an image's jobs.
+/// The number of bytes before an image's jobs.
 pub(crate) const HEAD: usize = 12;
 
-/// Whether an image of a version can say how many jobs there are, and all of each.
+/// Whether an image of a version can hold the number of jobs, and all parts of each.
 pub(crate) fn is_countable(version: Version, jobs: &[JobDef]) -> bool
     ensures { result ≡ (nat_le (length jobs.now) MAX_JOBS && list_all (fits version) jobs.now) }
 {
     jobs.len() <= MAX_JOBS && all_fit(version, jobs)
 }
 
-// How many bytes the index of jobs has.
+// The length of the index of jobs, in bytes.
 fn index_len(alloc: Global, jobs: &[JobDef]) -> Result<usize, AllocError>
     requires { length jobs.now ≤ MAX_JOBS }
     ensures { IfOk result (λ len. len ≡ length (index_part (entries_of jobs.now))) }
@@ -37,7 +37,7 @@ fn index_len(alloc: Global, jobs: &[JobDef]) -> Result<usize, AllocError>
     Ok(index.len())
 }
 
-// Whether the head, the jobs and the index together are as small as an image is. No more than one of them is written at a time.
+// Whether the head, the jobs and the index together are within the limit of an image. Writes only one of them at a time.
 #[tactic(auto, using(crate::proofs::Lengths::length_more, crate::proofs::Lengths::too_long))]
 fn is_small(alloc: Global, jobs: &[JobDef]) -> Result<bool, AllocError>
     requires { length jobs.now ≤ MAX_JOBS }
@@ -67,7 +67,6 @@ pub(crate) fn has_image(alloc: Global, jobs: &[JobDef]) -> Result<bool, AllocErr
     is_small(alloc, jobs)
 }
 
-/// Appends the head of an image of a version with so many jobs and bytes.
 pub(crate) fn put_head(
     out: &mut Vec<u8>,
     version: Version,
@@ -83,7 +82,7 @@ pub(crate) fn put_head(
     Ok(())
 }
 
-// The head, the jobs and the index. For the length, which isn't known yet, the head says 0.
+// The head, the jobs and the index. The length isn't known yet, so it is 0 in the head.
 fn write_parts(alloc: Global, jobs: &[JobDef]) -> Result<Vec<u8>, AllocError>
     requires { length jobs.now ≤ MAX_JOBS }
     ensures { IfOk result (λ bytes. bytes.items ≡ head_of Two (length jobs.now) 0 ++ body_of Two jobs.now) }
@@ -105,7 +104,7 @@ fn set_length(bytes: &mut [u8])
     BigEndian::write_u32(&mut bytes[8..], len);
 }
 
-// The same in a vector.
+// The same for a vector.
 #[tactic(auto, using(crate::proofs::Images::written))]
 fn set_length_in(bytes: &mut Vec<u8>)
     requires long { 12 ≤ length bytes.old.items }

@@ -11,22 +11,22 @@ pub enum ImageError {
     /// The table has too many jobs, items in a list or nodes in an expression, or its image would have more than 16 MiB.
     #[error("ImageTooLarge")]
     ImageTooLarge,
-    /// The bytes don't begin as an image does.
+    /// The bytes don't begin like an image.
     #[error("BadMagic")]
     BadMagic,
-    /// The image has another version.
+    /// The image has an unknown version.
     #[error("BadVersion")]
     BadVersion,
     /// Bytes are missing at the end.
     #[error("Truncated")]
     Truncated,
-    /// There are more bytes than the image says.
+    /// There are more bytes than the length in the image's head.
     #[error("Trailing")]
     Trailing,
-    /// The bytes are no table's image, or a table's that no files define.
+    /// The bytes aren't the image of a table, or no files define that table.
     #[error("BadTable")]
     BadTable,
-    /// Memory was refused.
+    /// Out of memory.
     #[error("Memory")]
     Memory,
 }
@@ -43,7 +43,7 @@ impl From<AllocError> for ImageError {
 }
 
 impl ImageError {
-    /// The number by which a report names this refusal.
+    /// The number of this refusal in a report.
     pub fn number(self) -> u8
         ensures { result ≡ number_of self }
     {

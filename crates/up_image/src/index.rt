@@ -22,7 +22,6 @@ pub struct Place {
     pub node: u16,
 }
 
-// Appends the leaves among nodes.
 fn add_leaves(
     places: &mut Vec<Place>,
     job: u16,
@@ -65,7 +64,6 @@ fn add_leaf(
     Ok(())
 }
 
-// Appends the leaves of a condition, if there is one.
 fn add_condition(
     places: &mut Vec<Place>,
     job: u16,
@@ -81,7 +79,7 @@ fn add_condition(
     Ok(())
 }
 
-// Appends the leaves of a job.
+// Appends the leaves of `stop on`, then those of `start on`.
 fn add_job(places: &mut Vec<Place>, at: u16, job: &JobDef) -> Result<(), AllocError>
     ensures { OnOk result (places.new.items ≡ places.old.items
         ++ (places_in at false job.now.stop_on ++ places_in at true job.now.start_on)) }
@@ -91,7 +89,6 @@ fn add_job(places: &mut Vec<Place>, at: u16, job: &JobDef) -> Result<(), AllocEr
     Ok(())
 }
 
-// The leaves of all jobs, in order.
 fn places_of(alloc: Global, jobs: &[JobDef]) -> Result<Vec<Place>, AllocError>
     requires { length jobs.now ≤ MAX_JOBS }
     ensures { IfOk result (λ places. places.items ≡ places_of 0 jobs.now) }
@@ -105,14 +102,13 @@ fn places_of(alloc: Global, jobs: &[JobDef]) -> Result<Vec<Place>, AllocError>
     Ok(places)
 }
 
-/// Appends the leaves of a job's `stop on`, as those of the job with this number.
+/// Appends the leaves of a job's `stop on`, with `number` as their job.
 pub fn add_stops(places: &mut Vec<Place>, number: u16, job: &JobDef) -> Result<(), AllocError>
     ensures { OnOk result (places.new.items ≡ places.old.items ++ places_in number false job.now.stop_on) }
 {
     add_condition(places, number, false, &job.stop_on)
 }
 
-/// The leaves of all these files, in order.
 pub fn places_of_files(alloc: Global, files: &[JobFile]) -> Result<Vec<Place>, AllocError>
     requires { length files.now ≤ MAX_JOBS }
     ensures { IfOk result (λ places. places.items ≡ places_of 0 files.now) }
@@ -126,7 +122,7 @@ pub fn places_of_files(alloc: Global, files: &[JobFile]) -> Result<Vec<Place>, A
     Ok(places)
 }
 
-/// The leaves of a job's `stop on` by the byte order of the events that they name, as those of job 0.
+/// The leaves of a job's `stop on` in byte order of their events, with 0 as their job.
 pub(crate) fn sorted_stops(alloc: Global, job: &JobDef) -> Result<Vec<Place>, AllocError>
     ensures { IfOk result (λ places. places.items
         ≡ in_order (λ place. place.event) (places_in 0 false job.now.stop_on)) }
@@ -137,14 +133,14 @@ pub(crate) fn sorted_stops(alloc: Global, job: &JobDef) -> Result<Vec<Place>, Al
     Ok(places)
 }
 
-/// Sorts places by the byte order of the events that they name; those of one event stay in their order.
+/// Sorts places in byte order of their events; those of one event stay in their order.
 pub fn sort_places(places: &mut Vec<Place>) -> Result<(), AllocError>
     ensures { OnOk result (places.new.items ≡ in_order (λ place. place.event) places.old.items) }
 {
     places.sort_by(|place, other| place.event.as_str().cmp(other.event.as_str()))
 }
 
-/// The leaves of jobs by the byte order of their events; those of one event job by job, first what stops it and then what starts it.
+/// The leaves of jobs in byte order of their events; those of one event job by job, `stop on` before `start on`.
 pub(crate) fn sorted_places(alloc: Global, jobs: &[JobDef]) -> Result<Vec<Place>, AllocError>
     requires { length jobs.now ≤ MAX_JOBS }
     ensures { IfOk result (λ places. places.items ≡ in_order (λ place. place.event) (places_of 0 jobs.now)) }
@@ -154,7 +150,7 @@ pub(crate) fn sorted_places(alloc: Global, jobs: &[JobDef]) -> Result<Vec<Place>
     Ok(places)
 }
 
-// How many places from the first one on have this event.
+// The number of leading places with this event.
 fn same_len(event: &Name, places: &[Place]) -> usize
     ensures counted { result ≡ prefix_len (λ place. bytes_eq place.event event.now) places.now }
     ensures within { result ≤ length places.now }
@@ -165,7 +161,7 @@ fn same_len(event: &Name, places: &[Place]) -> usize
         .count()
 }
 
-// The first run of one event, and the places after it.
+// The leading places with the same event, and the places after them.
 fn split_run(places: &[Place]) -> Option<(&[Place], &[Place])>
     ensures { MatchOption result (places.now ≡ [])
         (λ found. (runs_of places.now ≡ found.0.now ∷ runs_of found.1.now)
@@ -180,7 +176,7 @@ fn split_run(places: &[Place]) -> Option<(&[Place], &[Place])>
     }
 }
 
-// The runs of one event.
+// Splits places into runs with the same event.
 fn runs_of(alloc: Global, places: &[Place]) -> Result<Vec<&[Place]>, AllocError>
     ensures { IfOk result (λ runs. map (λ run. run.now) runs.items ≡ runs_of places.now) }
 {
@@ -211,7 +207,7 @@ fn put_each_place(out: &mut Vec<u8>, places: &[Place]) -> Result<(), AllocError>
     Ok(())
 }
 
-// The event of a run's places.
+// The event of a run's places; empty without places.
 fn event_of(places: &[Place]) -> &str
     ensures { result.now ≡ event_of places.now }
 {

@@ -9,14 +9,14 @@ use std::marker::Model;
 use std::rc::Rc;
 use up_conf::JobDef;
 
-// A job, and the leaves of its `stop on` by the byte order of the events that they name.
+// A job, and the leaves of its `stop on` in byte order of their events.
 #[derive(Drop)]
 struct Indexed {
     job: JobDef,
     stops: Vec<Place>,
 }
 
-/// A job file, as the jobs in force share it with the instances that were made by it. Contracts see the job.
+/// A job file, shared by the jobs in force and the instances that were made by it. Contracts see the job.
 #[derive(Drop)]
 pub struct JobFile {
     shared: Rc<Indexed>,
@@ -55,7 +55,7 @@ impl JobFile {
         }
     }
 
-    /// The same file, for one more owner. Takes no memory, and is refused only to more owners than memory has room for.
+    /// The same file, for one more owner. Allocates nothing, and fails only with more owners than memory has room for.
     pub fn share(&self) -> Result<Self, AllocError>
         ensures { IfOk result (λ file. file ≡ self.now) }
     {
@@ -69,8 +69,7 @@ impl JobFile {
         &self.shared.as_ref().job
     }
 
-    /// The leaves of its `stop on` by the byte order of the events that they name; those of one event from left to right. Each is said to be of
-    /// job 0.
+    /// The leaves of its `stop on` in byte order of their events; those of one event from left to right. Their job is 0.
     pub fn stops(&self) -> &[Place]
         ensures { result.now ≡ in_order (λ place. place.event) (places_in 0 false self.now.stop_on) }
     {

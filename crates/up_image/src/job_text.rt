@@ -13,7 +13,7 @@ const MAX_FILE: usize = 1_048_576;
 /// The most keys that a file sets, and that it exports.
 const MAX_FILE_KEYS: usize = 30_000;
 
-// The files of a job: what no longer goes into the first one goes into its override.
+// The files of a job: what doesn't fit into the first one goes into its override.
 #[derive(Drop)]
 struct Draft {
     conf: String,
@@ -21,7 +21,7 @@ struct Draft {
 }
 
 impl Draft {
-    // Adds a stanza to the override if that is wanted or the first file has no room, and returns whether it did.
+    // Adds a stanza, to the override if `over` or if the first file has no room; returns whether it went there.
     fn add(&mut self, stanza: &str, over: bool) -> Result<bool, AllocError> {
         if over || stanza.len() > MAX_FILE.saturating_sub(self.conf.len()) {
             self.over.push_str(stanza)?;
@@ -231,8 +231,8 @@ fn add_job(alloc: Global, folder: &mut Folder, job: &JobDef) -> Result<(), Alloc
     Ok(())
 }
 
-/// A folder of files that define these jobs, if any files of the lengths that are read do. What else it defines is for the caller
-/// to see: nothing is promised of it here.
+/// A folder of files that define these jobs, if any files within the limits of length do. The caller must check what else it defines:
+/// nothing is promised here.
 pub(crate) fn folder_of(alloc: Global, jobs: &[JobDef]) -> Result<Folder, AllocError> {
     let mut folder = Folder::new(alloc);
     for job in jobs {

@@ -17,13 +17,13 @@ ghost use Rattle.up_image.specs.Reading.{ReadsImage, head_error};
 ghost use Rattle.up_image.specs.declared.image_error.ImageError.{ImageError};
 ghost use Rattle.up_image.specs.declared.image_error.ImageError.TheVariants.{Memory};
 
-/// A table has one image at most in each version.
+/// A table has at most one image in each version.
 pub fn one_image()
     ensures { (version : Version) (bytes other : List ℕ) (jobs : List JobDef) → IsVersion version bytes jobs
         → IsVersion version other jobs → bytes ≡ other }
 {}
 
-/// An image is that of one table at most, whatever its version.
+/// An image belongs to at most one table, whatever its version.
 pub fn one_table()
     ensures { (version second : Version) (bytes : List ℕ) (jobs others : List JobDef)
         → IsVersion version bytes jobs → IsVersion second bytes others → jobs ≡ others }
@@ -40,20 +40,20 @@ pub fn some_image()
     ensures { (jobs : List JobDef) → (has_image jobs ≡ true) ↔ ((bytes : List ℕ) × IsImage bytes jobs) }
 {}
 
-/// What a folder is compiled to can be given by files.
+/// Files can define what a folder is compiled to.
 pub fn compiled_is_given()
     ensures { (files : List File) (jobs : List JobDef) (faults : List Fault) → Compiles files jobs faults
         → are_definable jobs ≡ true }
 {}
 
-/// The image of what a folder is compiled to is read back, unless memory is lacking: it is never refused as `BadTable`.
+/// The image of what a folder is compiled to can be read, except out of memory: it is never refused as `BadTable`.
 pub fn compiled_is_read()
     ensures { (files : List File) (jobs : List JobDef) (faults : List Fault) (bytes : List ℕ)
         (result : Result (List JobDef) ImageError) → Compiles files jobs faults → IsImage bytes jobs
         → ReadsImage bytes (head_error bytes) result → (result ≡ Ok jobs) ⊎ (result ≡ Err Memory) }
 {}
 
-/// The jobs of a folder have numbers and lists that an image can say.
+/// The jobs of a folder have numbers and lists that fit into an image.
 pub fn files_fit()
     ensures { (files : List File) → has_twice (read_paths files) ≡ false → list_all (fits Two) (jobs_of files) ≡ true }
 {}

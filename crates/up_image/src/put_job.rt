@@ -101,7 +101,7 @@ pub(crate) fn put_job(out: &mut Vec<u8>, version: Version, job: &JobDef) -> Resu
     Ok(())
 }
 
-/// How many bytes a job has as it is written. They are written to `out`, in the place of what it had.
+/// The length of a job in an image, in bytes. Overwrites `out` with these bytes.
 pub(crate) fn job_len(out: &mut Vec<u8>, job: &JobDef) -> Result<usize, AllocError>
     ensures { IfOk result (λ len. len ≡ length (job_part Two job.now)) }
 {
@@ -110,7 +110,7 @@ pub(crate) fn job_len(out: &mut Vec<u8>, job: &JobDef) -> Result<usize, AllocErr
     Ok(out.len())
 }
 
-/// Appends jobs as they are written.
+/// Appends jobs as an image has them.
 pub(crate) fn put_jobs(out: &mut Vec<u8>, jobs: &[JobDef]) -> Result<(), AllocError>
     ensures { OnOk result (out.new.items ≡ out.old.items ++ flat_map (job_part Two) jobs.now) }
 {

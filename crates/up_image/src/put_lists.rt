@@ -18,7 +18,6 @@ fn put_each_text(out: &mut Vec<u8>, texts: &[Text]) -> Result<(), AllocError>
     Ok(())
 }
 
-/// Appends a list of texts.
 pub(crate) fn put_texts(out: &mut Vec<u8>, texts: &[Text]) -> Result<(), AllocError>
     ensures { OnOk result (out.new.items ≡ out.old.items ++ list_part text_part texts.now) }
 {
@@ -57,7 +56,6 @@ fn put_each_setting(out: &mut Vec<u8>, settings: &[Setting]) -> Result<(), Alloc
     Ok(())
 }
 
-/// Appends what a job sets in its environment.
 pub(crate) fn put_settings(out: &mut Vec<u8>, settings: &[Setting]) -> Result<(), AllocError>
     ensures { OnOk result (out.new.items ≡ out.old.items ++ list_part setting_part settings.now) }
 {
@@ -91,7 +89,7 @@ fn put_each_exit(out: &mut Vec<u8>, exits: &[Exit]) -> Result<(), AllocError>
     Ok(())
 }
 
-/// Appends the ends that are no failure.
+/// Appends the exits that are no failure.
 pub(crate) fn put_exits(out: &mut Vec<u8>, exits: &[Exit]) -> Result<(), AllocError>
     ensures { OnOk result (out.new.items ≡ out.old.items ++ list_part exit_part exits.now) }
 {
@@ -100,7 +98,6 @@ pub(crate) fn put_exits(out: &mut Vec<u8>, exits: &[Exit]) -> Result<(), AllocEr
     Ok(())
 }
 
-/// Appends what a process runs.
 pub(crate) fn put_action(out: &mut Vec<u8>, action: &Option<Action>) -> Result<(), AllocError>
     ensures { OnOk result (out.new.items ≡ out.old.items ++ action_part action.now) }
 {

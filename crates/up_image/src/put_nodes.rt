@@ -108,7 +108,7 @@ fn put_nodes(out: &mut Vec<u8>, nodes: &[Node]) -> Result<(), AllocError>
     Ok(())
 }
 
-/// Appends the nodes of a condition; none without one.
+/// Appends the nodes of a condition, or an empty list without one.
 pub(crate) fn put_condition(
     out: &mut Vec<u8>,
     condition: &Option<Condition>,

@@ -1,13 +1,13 @@
-//! Why what stands in an image isn't read.
+//! Why the content of an image isn't read.
 
 use std::alloc::AllocError;
 
-/// Why what stands in an image isn't read.
+/// Why the content of an image isn't read.
 #[derive(Clone, Copy, Debug)]
 pub(crate) enum ReadFault {
-    /// It is nothing that an image has there.
+    /// No image has such bytes there.
     BadTable,
-    /// Memory was refused.
+    /// Out of memory.
     Memory,
 }
 

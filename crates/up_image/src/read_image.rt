@@ -1,7 +1,7 @@
 //! Reads a table from bytes.
 //!
-//! The table that is found is taken only if files can give its jobs and its image is the bytes: so the places of nodes and the index
-//! need no look of their own.
+//! A table is accepted only if files can define its jobs and its image is the same as the bytes: so the places of nodes and the index
+//! need no check of their own.
 ghost use Rattle.std.specs.Prelude.{◌≡◌, ◌≤◌, IfErr, IfOk, OnOk, Some, codes, drop, length, take, true, false};
 ghost use Rattle.std.specs.Result.{result_err};
 ghost use Rattle.std.specs.Str.{bytes_eq};
@@ -26,10 +26,10 @@ use std::alloc::Global;
 use up_conf::JobDef;
 use up_text::Items;
 
-/// How an image begins.
+/// The first bytes of an image.
 const MAGIC: &[u8; 4] = b"UPTB";
 
-// The version that an image says, if it is one.
+// The version in an image's head, if it is a known one.
 fn version(bytes: &[u8]) -> Option<Version>
     requires { 12 ≤ length bytes.now }
     ensures { result ≡ version_at bytes.now }
@@ -37,7 +37,7 @@ fn version(bytes: &[u8]) -> Option<Version>
     version_of(BigEndian::read_u16(&bytes[4..]))
 }
 
-// How long an image says that it is.
+// The length in an image's head, in bytes.
 fn claimed_length(bytes: &[u8]) -> u32
     requires { 12 ≤ length bytes.now }
     ensures { result ≡ claimed_length bytes.now }
@@ -45,7 +45,7 @@ fn claimed_length(bytes: &[u8]) -> u32
     BigEndian::read_u32(&bytes[8..])
 }
 
-// How many jobs an image says that it has.
+// The number of jobs in an image's head.
 fn job_count(bytes: &[u8]) -> u16
     requires { 12 ≤ length bytes.now }
     ensures { result ≡ big_number 2 (drop 6 bytes.now) }
@@ -60,7 +60,7 @@ fn has_magic(bytes: &[u8]) -> bool
     bytes[..len] == MAGIC[..len]
 }
 
-// The version of an image, or what is wrong with its head.
+// The version of an image, or the error in its head.
 #[tactic(auto, unfolding(crate::specs::Reading::head_error))]
 fn read_head(bytes: &[u8]) -> Result<Version, ImageError>
     ensures error { result_err result ≡ head_error bytes.now }
@@ -85,7 +85,7 @@ fn read_head(bytes: &[u8]) -> Result<Version, ImageError>
     Ok(version)
 }
 
-// Refuses jobs that have another image than these bytes.
+// Refuses jobs whose image isn't these bytes.
 fn check_image(
     alloc: Global,
     version: Version,
@@ -101,7 +101,7 @@ fn check_image(
     Err(ReadFault::BadTable)
 }
 
-// Refuses jobs of an old image that have no new one: that may be longer.
+// Refuses jobs of version 1 that have no image of version 2, which may be longer.
 fn check_new(alloc: Global, version: Version, jobs: &[JobDef]) -> Result<(), ReadFault>
     ensures imaged { OnOk result (version ≡ One → has_image jobs.now ≡ true) }
     ensures refused { IfErr result (λ read_fault. read_fault ≡ BadTable → has_image jobs.now ≡ false) }
@@ -117,7 +117,7 @@ fn check_new(alloc: Global, version: Version, jobs: &[JobDef]) -> Result<(), Rea
     }
 }
 
-// Refuses jobs that no files give.
+// Refuses jobs that no files define.
 fn check_given(alloc: Global, jobs: &[JobDef]) -> Result<(), ReadFault>
     ensures given { OnOk result (are_definable jobs.now ≡ true) }
     ensures refused { IfErr result (λ read_fault. read_fault ≡ BadTable → are_definable jobs.now ≡ false) }
@@ -128,7 +128,6 @@ fn check_given(alloc: Global, jobs: &[JobDef]) -> Result<(), ReadFault>
     Err(ReadFault::BadTable)
 }
 
-// The bytes after the head.
 fn after_head(bytes: &[u8]) -> &[u8]
     requires { 12 ≤ length bytes.now }
     ensures { result.now ≡ drop 12 bytes.now }
@@ -152,7 +151,7 @@ fn check_stored(
     Ok(())
 }
 
-// The jobs that were found, if a table has them and these bytes are their image.
+// The jobs that were read, if a table has them and these bytes are their image.
 fn checked(
     alloc: Global,
     version: Version,
@@ -167,7 +166,7 @@ fn checked(
     Ok(Items::new(jobs))
 }
 
-// The jobs whose image these bytes are, if their head is right and says this version.
+// The jobs of an image whose head is right and has this version.
 fn read_body(alloc: Global, version: Version, bytes: &[u8]) -> Result<Items<JobDef>, ReadFault>
     requires long { 12 ≤ length bytes.now }
     requires version { version_at bytes.now ≡ Some version }
@@ -186,7 +185,7 @@ fn read_body(alloc: Global, version: Version, bytes: &[u8]) -> Result<Items<JobD
     }
 }
 
-/// The table whose image these bytes are. Refused by what is wrong with their head, else with `BadTable` or `Memory`.
+/// Reads a table from its image. An error in the head comes first, else the error is `BadTable` or `Memory`.
 pub(crate) fn read_image(alloc: Global, bytes: &[u8]) -> Result<Table, ImageError>
     ensures { ReadsImage bytes.now (head_error bytes.now) result }
 {

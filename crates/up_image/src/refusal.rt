@@ -11,13 +11,13 @@ pub enum CompileError {
     /// There are more jobs than a table may have.
     #[error("TooManyJobs")]
     TooManyJobs,
-    /// Two files define one job.
+    /// Two files define the same job.
     #[error("SameName")]
     SameName,
     /// The image of the jobs would have more than 16 MiB.
     #[error("ImageTooLarge")]
     ImageTooLarge,
-    /// Memory was refused.
+    /// Out of memory.
     #[error("Memory")]
     Memory,
 }
@@ -34,7 +34,7 @@ impl From<AllocError> for CompileError {
 }
 
 impl CompileError {
-    /// The number by which a report names this refusal.
+    /// The number of this refusal in a report.
     pub fn number(self) -> u8
         ensures { result ≡ number_of self }
     {

@@ -1,4 +1,4 @@
-//! Tells whether bytes are the image of jobs. The image isn't kept for it: a part is written, compared with the bytes, and let go.
+//! Checks whether bytes are the image of jobs, without the whole image in memory: each part is written, compared and dropped.
 ghost use Rattle.std.specs.Prelude.{◌≡◌, ◌++◌, ◌≤◌, Decides, IfOk, List, MatchOption, length, ℕ};
 ghost use Rattle.std.specs.List.{flat_map};
 ghost use Rattle.up_image.specs.declared.limits.TheConstants.{MAX_JOBS};
@@ -37,7 +37,7 @@ fn after_head(
     Ok(after(head.as_slice(), bytes))
 }
 
-// The bytes after a job, if they begin with it. The job is written to `part`, in the place of what it had.
+// The bytes after a job, if they begin with it. Overwrites `part` with the bytes of the job.
 fn after_job<'a>(
     part: &mut Vec<u8>,
     version: Version,
@@ -75,7 +75,6 @@ fn after_jobs<'a>(
     Ok(Some(rest))
 }
 
-// Whether bytes are the index of jobs.
 fn is_index(alloc: Global, jobs: &[JobDef], bytes: &[u8]) -> Result<bool, AllocError>
     requires { length jobs.now ≤ MAX_JOBS }
     ensures { IfOk result (λ is. Decides is (bytes.now ≡ index_part (entries_of jobs.now))) }

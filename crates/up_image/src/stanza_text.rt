@@ -1,4 +1,4 @@
-//! Writes what a job file says: tokens, commands and expressions.
+//! Writes the content of a job file: tokens, commands and expressions.
 
 use std::alloc::{AllocError, Global};
 use up_expr::{Branch, Leaf, Root, Test};
@@ -21,7 +21,7 @@ fn is_plain(text: &str) -> bool {
         && text.as_bytes().iter().all(|byte| is_plain_byte(*byte))
 }
 
-// The quote that stands less often in a text.
+// The quote that occurs less often in a text; the double quote if both do equally often.
 fn quote_for(text: &str) -> char {
     let double = text.as_bytes().iter().filter(|byte| **byte == b'"').count();
     let single = text
@@ -73,7 +73,7 @@ fn put_words(out: &mut String, words: &[Text]) -> Result<(), AllocError> {
     Ok(())
 }
 
-// A text that ends a line is a script's, and any other is a command's after its `exec`.
+// An empty text or one that ends with a newline is a script, any other is a command after its `exec`.
 fn put_shell(out: &mut String, text: &str) -> Result<(), AllocError> {
     if text.is_empty() || text.ends_with('\n') {
         out.push_str("script\n")?;
@@ -130,7 +130,7 @@ fn put_leaf(alloc: Global, out: &mut String, leaf: &Leaf) -> Result<(), AllocErr
     Ok(())
 }
 
-// Operators group to the left, so that only a right side wants parentheses.
+// Operators group to the left, so only a right side needs parentheses.
 fn open(out: &mut String, grouped: bool) -> Result<(), AllocError> {
     if grouped {
         out.push_str(" (")?;
@@ -145,7 +145,7 @@ fn close(out: &mut String, grouped: bool) -> Result<(), AllocError> {
     Ok(())
 }
 
-/// Appends an expression; in parentheses if it is grouped and more than a leaf.
+/// Appends an expression, in parentheses if it is `grouped` and more than a leaf.
 #[cycle(expressions)]
 pub(crate) fn put_expr(
     alloc: Global,

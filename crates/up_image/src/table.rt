@@ -56,21 +56,19 @@ impl Table {
         Table { jobs }
     }
 
-    /// Its jobs are ones that files can give, so that no two have one name, and they have an image.
+    /// Files can define its jobs, so no two have the same name, and the jobs have an image.
     pub fn is_given(&self)
         ensures { IsTable self.now }
     {
         let _jobs = &self.jobs;
     }
 
-    /// How many jobs there are.
     pub fn len(&self) -> usize
         ensures { result ≡ length self.now }
     {
         self.as_slice().len()
     }
 
-    /// The job at this place.
     pub fn job(&self, i: usize) -> &JobDef
         requires { i < length self.now }
         ensures { slice_get self.now i ≡ Some result.now }
@@ -78,14 +76,12 @@ impl Table {
         &self.as_slice()[i]
     }
 
-    /// The jobs, in byte order of names.
     pub fn as_slice(&self) -> &[JobDef]
         ensures { result.now ≡ self.now }
     {
         self.jobs.as_slice()
     }
 
-    /// The jobs, in byte order of names, each with its memory.
     pub fn into_jobs(self) -> Vec<JobDef>
         ensures { result.items ≡ self }
     {
@@ -93,7 +89,7 @@ impl Table {
         jobs.into_vec()
     }
 
-    /// Files that can be shared, of its jobs in their order.
+    /// The jobs as files that can be shared, in their order.
     pub fn into_files(self, alloc: Global) -> Result<Vec<JobFile>, AllocError>
         ensures { IfOk result (λ files. files.items ≡ self) }
     {
@@ -104,7 +100,6 @@ impl Table {
         Ok(files)
     }
 
-    /// An equal table in memory of its own.
     pub fn copy(&self, alloc: Global) -> Result<Self, AllocError>
         ensures { IfOk result (λ table. table ≡ self.now) }
     {
@@ -113,7 +108,7 @@ impl Table {
         Ok(Table { jobs })
     }
 
-    /// The table's image, of version 2. Refused only with `Memory`.
+    /// The table's image, in version 2. The only error is `Memory`.
     pub fn to_bytes(&self, alloc: Global) -> Result<Vec<u8>, ImageError>
         ensures image { IfOk result (λ bytes. IsImage bytes.items self.now) }
         ensures refused { IfErr result (λ error. error ≡ Memory) }
@@ -125,8 +120,8 @@ impl Table {
         }
     }
 
-    /// The table whose image, of either version, these bytes are. Takes no more memory than in proportion to the bytes, whatever lengths they claim: beside
-    /// them stand the jobs, and one job or the index as it is written for the comparison.
+    /// Reads a table from its image in either version. Takes memory at most in proportion to the bytes, whatever lengths they claim:
+    /// beside the jobs, only one job or the index is in memory, as it is written for the comparison.
     pub fn from_bytes(alloc: Global, bytes: &[u8]) -> Result<Table, ImageError>
         ensures { ReadsImage bytes.now (head_error bytes.now) result }
     {

@@ -9,7 +9,6 @@ use std::alloc::{AllocError, Global};
 use std::str;
 use up_text::{Items, Name, Text, TextFault};
 
-/// Appends an item.
 pub(crate) fn push<T: Drop>(items: &mut Vec<T>, item: T) -> Result<(), AllocError>
     ensures { OnOk result (items.new.items ≡ items.old.items ++ item ∷ []) }
 {

@@ -29,7 +29,7 @@ fn take_own_texts(alloc: Global, bytes: &[u8]) -> Result<(Texts, &[u8]), ReadFau
     Ok((texts, rest))
 }
 
-// The number of the reload signal. In version 1 it is HUP and has no byte.
+// The number of the reload signal. In version 1 it is always HUP and has no byte.
 fn take_reload(version: Version, bytes: &[u8]) -> Result<(u8, &[u8]), ReadFault>
     ensures { Reads (λ x. (x.0, x.1.now)) result (reload_at version bytes.now) }
 {
@@ -100,7 +100,6 @@ fn take_events(alloc: Global, bytes: &[u8]) -> Result<(Events, &[u8]), ReadFault
     Ok((Events { start_on, stop_on }, rest))
 }
 
-// The signals of these numbers.
 fn signals_of(numbers: Numbers) -> Result<Signals, ReadFault>
     ensures { Reads (λ signals. signals) result (signals_of numbers) }
 {
@@ -109,7 +108,6 @@ fn signals_of(numbers: Numbers) -> Result<Signals, ReadFault>
     Ok(Signals { kill, reload })
 }
 
-// The job of these parts.
 fn job_of(
     texts: Texts,
     numbers: Numbers,
@@ -160,7 +158,7 @@ fn take_job(alloc: Global, version: Version, bytes: &[u8]) -> Result<(JobDef, &[
     ))
 }
 
-/// The first so many jobs of an image of a version. What stands after them is left to the caller.
+/// Reads the first `count` jobs of an image, and returns them and the bytes after them.
 #[tactic(auto, using(crate::proofs::Counting::items_left))]
 pub(crate) fn take_jobs(
     alloc: Global,

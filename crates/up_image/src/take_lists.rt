@@ -60,7 +60,6 @@ pub(crate) fn take_settings(
     take_each_setting(alloc, rest, count)
 }
 
-// The signal of this number.
 pub(crate) fn signal_of(number: u8) -> Result<Signal, ReadFault>
     ensures { Reads (λ x. x) result (signal_of number) }
 {
@@ -73,7 +72,6 @@ pub(crate) fn signal_of(number: u8) -> Result<Signal, ReadFault>
     }
 }
 
-// The exit of this kind and number.
 fn exit_of(kind: u8, number: u8) -> Result<Exit, ReadFault>
     ensures { Reads (λ x. x) result (exit_of kind number) }
 {

@@ -1,5 +1,5 @@
-//! Reads expressions from their nodes. Which places a node names isn't looked at: the image is written again from what was read, and
-//! is taken only if it is the same.
+//! Reads expressions from their nodes. The places in a node aren't checked: the image is written again from what was read, and is
+//! accepted only if it is the same.
 ghost use Rattle.std.specs.Prelude.{◌≡◌, ◌+◌, ◌<◌, ◌≤◌, [], ◌∷◌, ◌++◌, OnOk};
 ghost use Rattle.up_expr.specs.Laying.{sizes};
 ghost use Rattle.up_expr.specs.TreeCode.{joined};
@@ -13,7 +13,6 @@ use std::alloc::Global;
 use up_expr::{Builder, Condition, Leaf, Test};
 use up_text::{Items, Text};
 
-// The value of this kind.
 fn setting_with(kind: u8, key: Text, value: Text) -> Result<Test, ReadFault>
     ensures { Reads (λ x. x) result (keyed_by kind key value) }
 {
@@ -84,7 +83,7 @@ fn take_leaf(alloc: Global, bytes: &[u8]) -> Result<(Leaf, &[u8]), ReadFault>
     Ok((Leaf { event, values }, rest))
 }
 
-// Passes the places of a node's sides.
+// Skips the places of a node's sides.
 fn skip_sides(bytes: &[u8]) -> Result<&[u8], ReadFault>
     ensures { Reads (λ x. x.now) result (after_sides bytes.now) }
 {
@@ -104,7 +103,6 @@ fn join(builder: &mut Builder, both: bool) -> Result<(), ReadFault>
     Err(ReadFault::BadTable)
 }
 
-// Joins by the kind of a node.
 fn join_by(builder: &mut Builder, kind: u8) -> Result<(), ReadFault>
     requires { sizes builder.old < MAX_NODES }
     ensures { Reads (λ _. builder.new) result (joined_by kind builder.old) }
@@ -138,7 +136,7 @@ fn take_node<'a>(
     Ok(rest)
 }
 
-// The trees that so many nodes make.
+// Reads `count` nodes, and returns their trees and the bytes after them.
 #[tactic(auto, using(crate::proofs::Counting::trees_left))]
 fn take_trees(alloc: Global, bytes: &[u8], count: u16) -> Result<(Builder, &[u8]), ReadFault>
     requires { count ≤ MAX_NODES }
@@ -152,7 +150,7 @@ fn take_trees(alloc: Global, bytes: &[u8], count: u16) -> Result<(Builder, &[u8]
     Ok((builder, rest))
 }
 
-// The one tree, or that there is none.
+// The only tree, or None if there is none. Several are refused.
 fn one_tree(builder: Builder) -> Result<Option<Condition>, ReadFault>
     ensures { Reads (λ x. x) result (one_tree builder) }
 {
@@ -163,7 +161,7 @@ fn one_tree(builder: Builder) -> Result<Option<Condition>, ReadFault>
     }
 }
 
-/// Reads an expression, or that there is none.
+/// Reads an expression, which may be absent.
 #[tactic(auto, unfolding(crate::specs::Finding::condition_at))]
 pub(crate) fn take_condition(
     alloc: Global,

@@ -22,7 +22,6 @@ impl Version {
     }
 }
 
-/// The version of this number, if there is one.
 pub(crate) fn version_of(number: u16) -> Option<Version>
     ensures { result ≡ version_of number }
 {

@@ -1,4 +1,4 @@
-//! Laws: what a job does depends on what comes to its notice alone.
+//! Laws: what a job does depends only on what comes to its notice.
 ghost use Rattle.std.specs.Prelude.{ℕ, ◌≡◌, List, [], ◌∷◌, ◌++◌};
 ghost use Rattle.up_isolation.specs.Isolation.{GrowsByAtMostOne, IsUnique, MeanTheSame};
 ghost use Rattle.up_isolation.specs.Parts.{part as part_of};
@@ -32,8 +32,8 @@ pub fn part()
         ≡ part_of job second (next second (after_all second [] others) other) }
 {}
 
-/// In two runs in which the same comes to a job's notice, the job does the same: if the bases are one and the job's file says
-/// the same, or neither folder has it.
+/// In two runs in which the same comes to a job's notice, the job does the same: if the bases are the same and the job's file means the
+/// same, or neither folder has it.
 pub fn isolation()
     ensures { (job : List ℕ) (first second : Configuration) (inputs others : List Input)
         → IsUnique job first → MeanTheSame job first second

@@ -1,4 +1,4 @@
-//! The alarm: the timer kills nobody before the clock reads it.
+//! The alarm: a reading of the clock before which the timer kills nobody.
 ghost use Rattle.std.specs.Prelude.{◌≡◌, ◌≤◌, nat_lt, if◌then◌else◌};
 ghost use Rattle.up_job.specs.Alarms.{alarm_after, AreFrom, AllFrom};
 
@@ -13,7 +13,6 @@ fn earlier(at: u128, alarm: u128) -> u128
     if at < alarm { at } else { alarm }
 }
 
-/// The alarm after a change of an instance.
 pub(crate) fn alarm_after(its: &Change, alarm: u128) -> u128
     ensures { result ≡ alarm_after its.now alarm }
 {
@@ -36,7 +35,7 @@ fn earliest_of(instances: &[Instance], alarm: u128) -> u128
     earliest
 }
 
-/// The earliest moment at which main of one of these jobs' instances is to be killed, or a later one than any.
+/// The earliest moment at which main of one of these jobs' instances is to be killed; a later one than any if there is none.
 pub(crate) fn earliest(jobs: &[JobInstances]) -> u128
     ensures { AllFrom result jobs.now }
 {

@@ -1,4 +1,4 @@
-//! Instances by their keys. None of these calls allocates but `add_at`.
+//! Instances by their keys. Only `add_at` allocates.
 ghost use Rattle.std.specs.Prelude.{◌≡◌, ◌<◌, length, map, OnOk, OnErr, IfOk, IfErr, option_map, IsSome, Some, None};
 ghost use Rattle.std.specs.Option.{option_copied};
 ghost use Rattle.std.specs.Borrow.{sem};
@@ -81,7 +81,6 @@ fn unblock(jobs: &mut Vec<JobInstances>, id: EventId)
     }
 }
 
-// The first instance that waits for this event.
 #[tactic(auto, using(crate::proofs::Blocked::key_left))]
 fn first_blocked(jobs: &[JobInstances], id: EventId) -> Option<InstanceKey>
     ensures { result ≡ key_from id 0 jobs.now }
@@ -135,7 +134,6 @@ fn add_at(
 }
 
 impl Instances {
-    /// The instances of a job.
     pub fn of_job(&self, job: usize) -> &[Instance]
         ensures { result.now ≡ instances_at job self.now }
     {
@@ -145,7 +143,6 @@ impl Instances {
         }
     }
 
-    /// How many instances a job has.
     pub fn count(&self, job: usize) -> usize
         ensures { result ≡ length (instances_at job self.now) }
     {
@@ -155,7 +152,6 @@ impl Instances {
         }
     }
 
-    /// The name of a job.
     pub fn job_name(&self, job: usize) -> Option<&Name>
         ensures { option_copied result ≡ option_map job_of (nth job self.now) }
     {
@@ -165,14 +161,12 @@ impl Instances {
         }
     }
 
-    /// An instance.
     pub fn at(&self, key: InstanceKey) -> Option<&Instance>
         ensures { option_copied result ≡ instance_at key self.now }
     {
         at(self.jobs.as_slice(), key)
     }
 
-    /// Its name.
     pub fn name_at(&self, key: InstanceKey) -> Option<&str>
         ensures { option_copied result ≡ option_map name_of (instance_at key self.now) }
     {
@@ -182,7 +176,6 @@ impl Instances {
         }
     }
 
-    /// The key of the instance that has this name.
     pub fn position(&self, job: usize, name: &str) -> Option<InstanceKey>
         ensures { result ≡ key_of job name.now self.now }
     {
@@ -195,7 +188,7 @@ impl Instances {
         }
     }
 
-    /// An instance changes, if there is one.
+    /// Changes an instance; does nothing if there is none.
     pub fn change_at(&mut self, key: InstanceKey, its: Change)
         ensures { self.new ≡ changed_at key (changed its) self.old }
     {
@@ -211,14 +204,13 @@ impl Instances {
         alarm
     }
 
-    /// The alarm is set to the earliest moment at which somebody is to be killed. Looks at each instance.
+    /// Sets the alarm to the earliest moment at which the timer kills somebody. Looks at each instance.
     pub fn set_alarm(&mut self)
         ensures { self.new ≡ self.old }
     {
         self.alarm = earliest(self.jobs.as_slice());
     }
 
-    /// Removes an instance, if there is one, and returns it.
     pub fn remove_at(&mut self, key: InstanceKey) -> Option<Instance>
         ensures taken { result ≡ instance_at key self.old }
         ensures rest { self.new ≡ removed_at key self.old }
@@ -226,8 +218,7 @@ impl Instances {
         remove_at(&mut self.jobs, key)
     }
 
-    /// Makes an instance, whose life begins; returns where it stands among those of its job. It is refused as
-    /// `add` refuses it, and for want of a job with `Memory`.
+    /// Makes a new instance; returns its index among those of its job. Refused like `add`, and with `Memory` if there is no such job.
     pub fn add_at(
         &mut self,
         job: usize,
@@ -246,7 +237,6 @@ impl Instances {
         add_at(&mut self.jobs, job, name, file, stop_on)
     }
 
-    /// What the `stop on` of an instance remembers.
     pub fn stop_on_mut(&mut self, key: InstanceKey) -> &mut Trigger
         requires { IsSome (instance_at key self.old) }
         ensures* writes_back { sem 𝓛 (LendsStopOnAt self.entry key result) }
@@ -256,7 +246,7 @@ impl Instances {
         job.instances.stop_on_mut(key.at)
     }
 
-    /// No instance waits for this event any more; returns one that did, if there is one.
+    /// Ends each instance's wait for this event; returns one that waited, if any.
     pub fn unblock(&mut self, event: EventId) -> Option<InstanceKey>
         ensures after { self.new ≡ map (unblocked_in event) self.old }
         ensures blocked { IsBlocked event self.old result }

@@ -1,4 +1,4 @@
-//! What becomes of an instance, one change at a time.
+//! The changes of an instance, one at a time.
 ghost use Rattle.std.specs.Prelude.{◌≡◌};
 ghost use Rattle.up_job.specs.Changes.{begun, changed, entered, is_starting};
 
@@ -8,7 +8,7 @@ use crate::instance::Instance;
 use up_model::{EventId, Failure, Goal, Process, State};
 use up_text::{Env, Items};
 
-/// What happens to an instance.
+/// A change of an instance.
 #[derive(Drop)]
 pub enum Change {
     Starts {
@@ -27,13 +27,13 @@ pub enum Change {
     Fails(Failure),
     Enters(State),
     Orders(Process),
-    /// An order was answered: the process lives under this number, or it was refused.
+    /// An order was answered: the process has this number, or it was refused.
     Answers(Process, Option<u32>),
     /// A process has ended.
     Loses(Process),
     /// Main was sent a signal: on entering killed, at this reading of the clock, or else by the timer.
     Signals(Option<u64>),
-    /// It waits for its own event, or no more.
+    /// It waits for its own event, or no longer waits.
     Waits(Option<EventId>),
     /// Main is started again, at this reading of the clock.
     Respawns(u64),
@@ -66,7 +66,7 @@ fn enter(instance: &mut Instance, state: State)
     instance.kill_moment = None;
 }
 
-/// An instance changes.
+/// Applies a change to an instance.
 pub(crate) fn apply(instance: &mut Instance, change: Change)
     ensures { instance.new ≡ changed change instance.old }
 {

@@ -40,7 +40,6 @@ pub(crate) fn idle() -> Children
     }
 }
 
-/// One of the five.
 pub fn child_of(children: &Children, process: Process) -> Child
     ensures { result ≡ child_of process children.now }
 {
@@ -65,7 +64,6 @@ fn set_child(children: &mut Children, process: Process, child: Child)
     }
 }
 
-/// A process is ordered.
 pub(crate) fn order(children: &mut Children, process: Process)
     ensures { children.new ≡ ordered process children.old }
 {
@@ -73,7 +71,7 @@ pub(crate) fn order(children: &mut Children, process: Process)
     set_child(children, process, Child { awaited: true, pid });
 }
 
-/// An order was answered: the process lives under this number, or it was refused.
+/// An order was answered: the process has this number, or it was refused.
 pub(crate) fn answer(children: &mut Children, process: Process, spawned: Option<u32>)
     ensures { children.new ≡ answered process spawned children.old }
 {
@@ -92,7 +90,6 @@ pub(crate) fn answer(children: &mut Children, process: Process, spawned: Option<
     );
 }
 
-/// A process has ended.
 pub(crate) fn lose(children: &mut Children, process: Process)
     ensures { children.new ≡ lost process children.old }
 {

@@ -54,7 +54,7 @@ fn entering_running(from: State, task: bool) -> Entry
     }
 }
 
-/// What entering a state does (the Upstart Cookbook's table of states), coming from another.
+/// What entering a state from another does (the Upstart Cookbook's table of states).
 pub fn entering(to: State, from: State, task: bool) -> Entry
     ensures { result ≡ life.entering to from task }
 {

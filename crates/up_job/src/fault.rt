@@ -8,10 +8,10 @@ use thiserror::Error;
 /// Why an instance isn't made.
 #[derive(Clone, Copy, Debug, PartialEq, Eq, Error)]
 pub enum JobFault {
-    /// Memory was refused.
+    /// Out of memory.
     #[error("Memory")]
     Memory,
-    /// The job has as many instances as it may have.
+    /// The job has the most instances that it may have.
     #[error("Full")]
     Full,
 }
@@ -28,7 +28,7 @@ impl From<AllocError> for JobFault {
 }
 
 impl JobFault {
-    /// The number of this refusal; its name is what it is printed as.
+    /// The number of this refusal, which prints as its name.
     pub fn number(self) -> u8
         ensures { result ≡ number_of self }
     {

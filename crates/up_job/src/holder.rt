@@ -2,8 +2,7 @@
 
 use up_model::{Command, EventId};
 
-/// What an instance holds until its goal is reached: an event that lives, or a client that waits, by the number
-/// under which it is answered and what it asked.
+/// What an instance holds until its goal is reached: a live event, or a waiting client with the number of its answer and its command.
 #[derive(Clone, Copy)]
 pub enum Holder {
     Event(EventId),

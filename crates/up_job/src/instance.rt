@@ -15,7 +15,7 @@ use up_text::{Env, Items, Text};
 #[derive(Drop)]
 pub struct Instance {
     pub name: Text,
-    /// The job file by which it was made.
+    /// The job file from which it was made.
     pub file: JobFile,
     pub goal: Goal,
     pub state: State,
@@ -30,7 +30,7 @@ pub struct Instance {
     /// The first failure since starting was entered.
     pub failure: Option<Failure>,
     pub holders: Items<Holder>,
-    /// The event of its own that it waits for.
+    /// Its own event for which it waits.
     pub blocker: Option<EventId>,
     pub children: Children,
     /// What the clock read when main was sent its signal, until the timer has sent KILL.
@@ -41,7 +41,6 @@ pub struct Instance {
     pub stop_on: Trigger,
 }
 
-/// An instance whose life begins, by its file and by what its `stop on` remembers.
 pub(crate) fn new_instance(
     alloc: Global,
     name: &str,

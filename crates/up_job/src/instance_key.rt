@@ -1,7 +1,7 @@
-//! What instances are called in memory.
+//! The keys of instances in memory.
 
-/// An instance that exists: of which job, and which of that job's instances, in byte order of their names. If
-/// a job gets or loses an instance, its others have new keys.
+/// An instance that exists: its job, and its index among that job's instances in byte order of their names. If a job gets or loses an
+/// instance, the keys of its others may change.
 #[derive(Clone, Copy)]
 pub struct InstanceKey {
     pub job: usize,

@@ -24,7 +24,7 @@ use up_model::{EventId, MAX_INSTANCES};
 #[derive(Drop)]
 pub struct InstanceList {
     instances: Vec<Instance>,
-    // Whether one of them may wait for an event. Where none does, none is searched.
+    // Whether one of them may wait for an event. If none does, none is searched.
     may_wait: bool,
 }
 
@@ -53,7 +53,7 @@ pub(crate) fn is_before(name: &str, other: &str) -> bool
     name.cmp(other).is_lt()
 }
 
-// Where a name belongs among instances in order.
+// The index at which a name belongs.
 fn position(instances: &[Instance], name: &str) -> usize
     requires { by_name.AreInOrder name_of instances.now }
     ensures { result ≡ by_name.position name_of name.now instances.now }
@@ -61,7 +61,7 @@ fn position(instances: &[Instance], name: &str) -> usize
     instances.partition_point(|instance| is_before(instance.name.as_str(), name))
 }
 
-// Where the instance of a name stands, or else where it belongs.
+// The index of the instance with this name, or as an error the index at which it belongs.
 fn place(instances: &[Instance], name: &str) -> Result<usize, usize>
     requires { by_name.AreInOrder name_of instances.now }
     ensures place { MatchResult result (λ at. at ≡ by_name.position name_of name.now instances.now)
@@ -84,7 +84,7 @@ fn get(instances: &[Instance], at: usize) -> Option<&Instance>
     instances.get(at)
 }
 
-// Returns where the instance stands then.
+// Returns the index of the instance.
 fn insert(instances: &mut Vec<Instance>, instance: Instance) -> Result<usize, AllocError>
     requires { by_name.AreInOrder name_of instances.old.items }
     ensures added { OnOk result (instances.new.items ≡ with_instance instance instances.old.items) }
@@ -140,7 +140,6 @@ fn change(instances: &mut Vec<Instance>, name: &str, its: Change)
 }
 
 impl InstanceList {
-    /// No instance.
     pub(crate) fn new(alloc: Global) -> Self
         ensures { result ≡ [] }
     {
@@ -150,7 +149,6 @@ impl InstanceList {
         }
     }
 
-    /// One instance.
     pub(crate) fn with(alloc: Global, instance: Instance) -> Result<Self, AllocError>
         ensures { IfOk result (λ instances. instances ≡ instance ∷ []) }
     {
@@ -162,14 +160,12 @@ impl InstanceList {
         })
     }
 
-    /// How many there are.
     pub(crate) fn len(&self) -> usize
         ensures { result ≡ length self.now }
     {
         self.instances.len()
     }
 
-    /// All of them.
     pub(crate) fn as_slice(&self) -> &[Instance]
         ensures list { result.now ≡ self.now }
         ensures instance_list { IsInstanceList self.now }
@@ -177,14 +173,12 @@ impl InstanceList {
         self.instances.as_slice()
     }
 
-    /// The instance at a place.
     pub(crate) fn get(&self, at: usize) -> Option<&Instance>
         ensures { option_copied result ≡ nth at self.now }
     {
         get(self.instances.as_slice(), at)
     }
 
-    /// The place of the instance that has this name.
     pub(crate) fn position(&self, name: &str) -> Option<usize>
         ensures { result ≡ by_name.place_of name_of name.now self.now }
     {
@@ -194,7 +188,6 @@ impl InstanceList {
         }
     }
 
-    /// The instance of a name.
     pub(crate) fn find(&self, name: &str) -> Option<&Instance>
         ensures { option_copied result ≡ named name.now self.now }
     {
@@ -204,7 +197,7 @@ impl InstanceList {
         }
     }
 
-    /// Makes an instance; returns where it stands.
+    /// Returns the index of the new instance.
     pub(crate) fn add(
         &mut self,
         name: &str,
@@ -228,7 +221,6 @@ impl InstanceList {
         Ok(at)
     }
 
-    /// Takes the one at a place out, if there is one.
     pub(crate) fn remove_at(&mut self, at: usize) -> Option<Instance>
         ensures taken { result ≡ nth at self.old }
         ensures rest { self.new ≡ without_at at self.old }
@@ -236,7 +228,6 @@ impl InstanceList {
         take_at(&mut self.instances, at)
     }
 
-    /// Takes the instance of a name out.
     pub(crate) fn remove(&mut self, name: &str) -> Instance
         requires { IsSome (named name.now self.old) }
         ensures taken { named name.now self.old ≡ Some result }
@@ -245,7 +236,7 @@ impl InstanceList {
         take(&mut self.instances, name)
     }
 
-    /// The one at a place changes, if there is one.
+    /// Changes the instance at an index; does nothing if there is none.
     pub(crate) fn change_at(&mut self, at: usize, its: Change)
         ensures { self.new ≡ with_at at (changed its) self.old }
     {
@@ -253,7 +244,6 @@ impl InstanceList {
         change_at(&mut self.instances, at, its);
     }
 
-    /// The instance of a name changes.
     pub(crate) fn change(&mut self, name: &str, its: Change)
         requires { IsSome (named name.now self.old) }
         ensures { self.new ≡ with_change name.now (changed its) self.old }
@@ -262,7 +252,6 @@ impl InstanceList {
         change(&mut self.instances, name, its);
     }
 
-    /// What the `stop on` of the one at a place remembers.
     pub(crate) fn stop_on_mut(&mut self, at: usize) -> &mut Trigger
         requires { at < length self.old }
         ensures* writes_back { sem 𝓛 (LendsStopOn self.entry at result) }
@@ -272,7 +261,6 @@ impl InstanceList {
         &mut instance.stop_on
     }
 
-    /// The place of the first that waits for this event.
     pub(crate) fn first_blocked(&self, id: EventId) -> Option<usize>
         ensures { result ≡ blocked_from id 0 self.now }
     {
@@ -282,7 +270,6 @@ impl InstanceList {
         first_blocked(self.instances.as_slice(), id)
     }
 
-    /// None of them waits for this event any more.
     pub(crate) fn unblock(&mut self, id: EventId)
         ensures { self.new ≡ map (unblocked id) self.old }
     {

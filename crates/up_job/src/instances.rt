@@ -49,7 +49,7 @@ impl Model for Instances {
     ghost invariant = { λ s. AreInOrder job_of s.jobs.items × AllFrom s.alarm s.jobs.items };
 }
 
-// Where a job belongs among jobs in order.
+// The index at which a job belongs.
 fn position(jobs: &[JobInstances], name: &Name) -> usize
     requires { by_name.AreInOrder job_of jobs.now }
     ensures { result ≡ by_name.position job_of name.now jobs.now }
@@ -57,7 +57,7 @@ fn position(jobs: &[JobInstances], name: &Name) -> usize
     jobs.partition_point(|job| is_before(job.name.as_str(), name.as_str()))
 }
 
-/// Where a job stands, or else where it belongs.
+/// The index of a job, or as an error the index at which it belongs.
 pub(crate) fn place(jobs: &[JobInstances], name: &Name) -> Result<usize, usize>
     requires { by_name.AreInOrder job_of jobs.now }
     ensures place { MatchResult result (λ at. at ≡ by_name.position job_of name.now jobs.now)
@@ -74,7 +74,6 @@ pub(crate) fn place(jobs: &[JobInstances], name: &Name) -> Result<usize, usize>
     }
 }
 
-// A job without an instance.
 fn empty_job(alloc: Global, name: &Name) -> Result<JobInstances, AllocError>
     ensures { IfOk result (λ job. job ≡ record { name = name.now; instances = [] }) }
 {
@@ -95,7 +94,6 @@ fn empty_jobs(alloc: Global, jobs: &[JobFile]) -> Result<Vec<JobInstances>, Allo
     Ok(all)
 }
 
-// A job with its first instance.
 fn with_first(alloc: Global, name: Name, instance: Instance) -> Result<JobInstances, AllocError>
     ensures { IfOk result (λ job. job ≡ record { name = name; instances = instance ∷ [] }) }
 {
@@ -123,7 +121,7 @@ fn first_of(
     }
 }
 
-// Makes the first instance of a job; returns where the job stands.
+// Makes the first instance of a job; returns the index of the job.
 fn add_first(
     jobs: &mut Vec<JobInstances>,
     job: &Name,
@@ -144,7 +142,7 @@ fn add_first(
     Ok(at)
 }
 
-// Makes an instance of a job that is there.
+// Makes an instance of an existing job.
 fn add_to(
     jobs: &mut Vec<JobInstances>,
     job: &Name,
@@ -188,7 +186,6 @@ fn change(jobs: &mut Vec<JobInstances>, job: &Name, instance: &str, its: Change)
 }
 
 impl Instances {
-    /// No instance, and no job.
     pub fn new(alloc: Global) -> Self
         ensures { result ≡ [] }
     {
@@ -198,7 +195,7 @@ impl Instances {
         }
     }
 
-    /// No instance of these jobs.
+    /// These jobs without instances.
     pub fn of_jobs(alloc: Global, jobs: &[JobFile]) -> Result<Self, AllocError>
         requires { by_name.AreInOrder file_name jobs.now }
         ensures { IfOk result (λ instances. instances ≡ map new_job jobs.now) }
@@ -210,7 +207,6 @@ impl Instances {
         })
     }
 
-    /// The instances of a job.
     pub fn of(&self, job: &Name) -> &[Instance]
         ensures list { result.now ≡ instances_in job.now self.now }
         ensures instance_list { IsInstanceList result.now }
@@ -221,7 +217,6 @@ impl Instances {
         }
     }
 
-    /// The instance of a job that has this name.
     pub fn find(&self, job: &Name, instance: &str) -> Option<&Instance>
         ensures { option_copied result ≡ named instance.now (instances_in job.now self.now) }
     {
@@ -231,8 +226,8 @@ impl Instances {
         }
     }
 
-    /// Makes an instance, whose life begins. It is refused with `Full` if its job has 1,024, however many other jobs have, and else only
-    /// for memory; a refusal changes nothing.
+    /// Makes a new instance. Refused with `Full` if its job has 1,024, however many other jobs have, otherwise only out of memory; a
+    /// refusal changes nothing.
     pub fn add(
         &mut self,
         job: &Name,
@@ -260,7 +255,7 @@ impl Instances {
         }
     }
 
-    /// An instance changes. Its name stays, and so do all other instances.
+    /// Changes an instance. Its name and all other instances stay.
     pub fn change(&mut self, job: &Name, instance: &str, its: Change)
         requires { IsSome (named instance.now (instances_in job.now self.old)) }
         ensures { Changes job.now (with_change instance.now (changed its)) self.old self.new }
@@ -269,7 +264,6 @@ impl Instances {
         change(&mut self.jobs, job, instance, its);
     }
 
-    /// Removes an instance, and returns it.
     pub fn remove(&mut self, job: &Name, instance: &str) -> Instance
         requires { IsSome (named instance.now (instances_in job.now self.old)) }
         ensures taken { named instance.now (instances_in job.now self.old) ≡ Some result }

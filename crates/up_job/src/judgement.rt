@@ -92,8 +92,8 @@ fn counts(goal: Goal, state: State) -> bool
     goal.is_start() && is_judged_in(state)
 }
 
-/// What the end or the refusal of a process does, by the goal and the state of its instance, by whether the job is a `task` and has `respawn`,
-/// whether the end is one that `normal exit` lists, and whether the respawn limit allows one more (init(5)).
+/// What the end or the refusal of a process does. `task` and `respawn` are whether the job has these stanzas, `normal` is whether
+/// `normal exit` lists the end, and `may` is whether the respawn limit allows one more (init(5)).
 pub fn judge_end(
     goal: Goal,
     state: State,

@@ -42,7 +42,6 @@ fn room(limit: Limit) -> usize
     }
 }
 
-/// Seconds as the clock counts.
 pub(crate) fn milliseconds(seconds: u32) -> u64
     ensures { result ≡ clock.milliseconds seconds }
 {
@@ -50,7 +49,7 @@ pub(crate) fn milliseconds(seconds: u32) -> u64
 }
 
 impl Moments {
-    /// No respawn. All room that the limit ever needs is taken here.
+    /// Allocates all room that the limit ever needs.
     pub fn new(alloc: Global, limit: Limit) -> Result<Self, AllocError>
         ensures { IfOk result (λ moments. moments ≡ buffer [] (room limit)) }
     {
@@ -58,14 +57,14 @@ impl Moments {
         Ok(Moments { ring })
     }
 
-    /// Notes a respawn. If there is no room the oldest one goes.
+    /// Notes a respawn. If there is no room, drops the oldest one.
     pub fn note(&mut self, moment: u64)
         ensures { self.new ≡ noted moment self.old }
     {
         self.ring.push_front(moment);
     }
 
-    // How many lie less than a span ago.
+    // The number of moments less than a span ago.
     fn recent(&self, now: u64, span: u64) -> usize
         ensures { result ≡ recent now span self.now.items }
     {
@@ -75,7 +74,7 @@ impl Moments {
             .count()
     }
 
-    /// Whether the limit allows one respawn more (init(5), `respawn limit`).
+    /// Whether the limit allows one more respawn (init(5), `respawn limit`).
     pub fn may_respawn(&self, limit: Limit, now: u64) -> bool
         ensures counted { result ≡ allows limit now self.now.items }
         ensures model { (instance : ℕ) (c : Chronicle) → now ≡ clock.now c

@@ -1,4 +1,4 @@
-//! Instances while other jobs come in force.
+//! Instances when other jobs come into force.
 ghost use Rattle.std.specs.Prelude.{◌≡◌, [], map, IfOk, OnOk};
 ghost use Rattle.up_job.specs.JobLists.{file_name, instances_in, job_of, kept_job, Changes};
 ghost use Rattle.up_job.specs.Named as by_name;
@@ -9,7 +9,7 @@ use std::alloc::{AllocError, Global};
 use up_image::JobFile;
 use up_text::Name;
 
-// The instances of the job of this name, which is left without one.
+// Takes out the instances of the job with this name, which is left without any.
 fn take_list(alloc: Global, jobs: &mut Vec<JobInstances>, name: &Name) -> InstanceList
     requires { by_name.AreInOrder job_of jobs.old.items }
     ensures order { by_name.AreInOrder job_of jobs.new.items }
@@ -44,7 +44,7 @@ fn taken(
 }
 
 impl Instances {
-    /// The instances stay of these jobs, which come in place of those before. Where memory is refused some instances may be lost.
+    /// Puts these jobs, with their instances, in place of those before. Out of memory, some instances may be lost.
     pub fn replace(&mut self, alloc: Global, jobs: &[JobFile]) -> Result<(), AllocError>
         requires { by_name.AreInOrder file_name jobs.now }
         ensures { OnOk result (self.new ≡ map (kept_job self.old) jobs.now) }

@@ -1,4 +1,4 @@
-//! Which state follows.
+//! The next state.
 ghost use Rattle.std.specs.Prelude.{◌≡◌, true};
 ghost use Rattle.up_model.specs.declared.state.Goal.TheVariants as aim;
 ghost use Rattle.up_model.specs.Life as life;
@@ -53,8 +53,8 @@ fn next_after_stop(from: State, has_main: bool, lives: bool) -> State
     }
 }
 
-/// The state that follows (the Upstart Cookbook's table of states), by the goal and the state, by whether the job has a main process, and
-/// whether that lives. An instance that waits and isn't to start has none.
+/// The next state (the Upstart Cookbook's table of states). `has_main` is whether the job has a main process, and `lives` whether it
+/// lives. An instance that waits and isn't to start has no next state.
 pub fn next_state(goal: Goal, from: State, has_main: bool, lives: bool) -> State
     requires { may_move goal from ≡ true }
     ensures { result ≡ life.next_state goal from has_main lives }

@@ -8,7 +8,7 @@ use crate::instances::{Instances, JobInstances};
 use std::alloc::{AllocError, Global};
 use up_image::{Place, add_stops};
 
-// Appends the leaves of the `stop on` of these instances, as those of the job with this number.
+// Appends the leaves of the `stop on` of these instances, with `number` as their job.
 fn add_stops_of(
     places: &mut Vec<Place>,
     number: u16,
@@ -38,8 +38,8 @@ fn stop_places(alloc: Global, jobs: &[JobInstances]) -> Result<Vec<Place>, Alloc
 }
 
 impl Instances {
-    /// The leaves of the `stop on` of each instance, by its own file, each as one of the job at the instance's place. It is refused to more
-    /// jobs than can be numbered, as if memory ran out.
+    /// The leaves of the `stop on` of each instance, from its own file, with the index of its job. More jobs than can be numbered are
+    /// refused as if out of memory.
     pub fn stop_places(&self, alloc: Global) -> Result<Vec<Place>, AllocError>
         ensures places { IfOk result (λ places. places.items ≡ stop_places 0 self.now) }
         ensures order { IfOk result (λ places. Rising 0 places.items) }

@@ -41,7 +41,7 @@ fn overdue(instance: &Instance, now: u64) -> bool
         )
 }
 
-/// What the clock reads when the timer is to kill main of an instance, if it is to.
+/// The reading of the clock at which the timer is to kill main, if it is to.
 pub(crate) fn kill_at(instance: &Instance) -> Option<u128>
     ensures { result ≡ kill_at instance.now }
 {
@@ -53,7 +53,7 @@ pub(crate) fn kill_at(instance: &Instance) -> Option<u128>
     }
 }
 
-/// Whether the timer is to kill main of an instance, by what the clock reads, in milliseconds (init(5), `kill timeout`).
+/// Whether the timer is to kill main at this reading of the clock, in milliseconds (init(5), `kill timeout`).
 pub fn is_overdue(instance: &Instance, now: u64) -> bool
     ensures kept { result ≡ is_overdue now instance.now }
     ensures model { (i : ℕ) (c : Chronicle) → now ≡ clock.now c

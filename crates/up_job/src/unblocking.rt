@@ -1,4 +1,4 @@
-//! An event that finishes blocks nobody any more.
+//! An event that has finished blocks nobody.
 ghost use Rattle.std.specs.Prelude.{◌≡◌, ◌||◌, map};
 ghost use Rattle.up_job.specs.Unblocking.{blocked_from, is_event, unblocked};
 ghost use Rattle.up_job.specs.Waiting.{any_waits, is_wait};
@@ -23,7 +23,6 @@ pub(crate) fn may_wait(before: bool, its: &Change) -> bool
     before || is_wait(its)
 }
 
-/// Whether one of these waits for an event of its own.
 pub(crate) fn any_waits(instances: &[Instance]) -> bool
     ensures { result ≡ any_waits instances.now }
 {
@@ -47,7 +46,6 @@ fn unblock(instance: &mut Instance, id: EventId)
     }
 }
 
-/// None of these waits for this event any more.
 pub(crate) fn unblock_all(instances: &mut Vec<Instance>, id: EventId)
     ensures { instances.new.items ≡ map (unblocked id) instances.old.items }
 {
@@ -62,7 +60,6 @@ fn is_blocked(instance: &Instance, id: EventId) -> bool
     is_event(instance.blocker, id)
 }
 
-/// The first of these that waits for this event.
 #[tactic(auto, using(crate::proofs::Blocked::blocked_left))]
 pub(crate) fn first_blocked(instances: &[Instance], id: EventId) -> Option<usize>
     ensures { result ≡ blocked_from id 0 instances.now }

@@ -1,4 +1,4 @@
-//! Offers to triggers, and what becomes of those that fire.
+//! Offers to triggers, and the firing of triggers.
 ghost use Rattle.std.specs.Prelude.{◌≡◌, map, IfOk, OnOk};
 ghost use Rattle.up_ledger.specs.Hearing.{Fires, Hears, trigger_at, trigger_in};
 ghost use Rattle.up_job.specs.JobLists.{changed_at};

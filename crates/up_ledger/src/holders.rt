@@ -1,4 +1,4 @@
-//! Those who hold an instance, as they are kept.
+//! The holders of an instance, as they are kept.
 ghost use Rattle.std.specs.Prelude.{◌≡◌, ◌∷◌, [], IfOk, OnOk};
 ghost use Rattle.up_ledger.specs.Asking.{client_of};
 ghost use Rattle.up_ledger.specs.Holding.{as_holders, holders_by};
@@ -40,7 +40,7 @@ fn of_client(alloc: Global, asked: Option<Asked>) -> Result<Items<Holder>, Alloc
     Ok(Items::new(its))
 }
 
-/// Those who hold an instance in a step that was asked for so.
+/// The holders of an instance in a step with this request.
 pub(crate) fn holders_by(
     alloc: Global,
     holders: Holders,

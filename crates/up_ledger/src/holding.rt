@@ -51,7 +51,7 @@ fn hold_one(events: &mut Events, holder: Holder) -> Result<(), AllocError>
     Ok(())
 }
 
-/// The events of these holders are held once more each.
+/// Adds a hold to the event of each of these holders.
 #[tactic(auto, using(crate::proofs::Holds::holders_left))]
 pub(crate) fn hold_all(events: &mut Events, holders: &[Holder]) -> Result<(), AllocError>
     ensures { OnOk result (events.new ≡ all_changed with_hold holders.now events.old) }
@@ -89,7 +89,7 @@ fn free_one(events: &mut Events, holder: Holder, failed: bool)
     }
 }
 
-/// The events of these holders are held once less each. Takes no memory.
+/// Removes a hold from the event of each of these holders. Takes no memory.
 #[tactic(auto, using(crate::proofs::Holds::holders_left))]
 pub(crate) fn free_all(events: &mut Events, holders: &[Holder], failed: bool)
     ensures { events.new ≡ all_changed (freed failed) holders.now events.old }
@@ -99,7 +99,7 @@ pub(crate) fn free_all(events: &mut Events, holders: &[Holder], failed: bool)
     }
 }
 
-/// What an instance holds is held once less. Takes no memory.
+/// Removes a hold from each event that an instance holds. Takes no memory.
 pub(crate) fn free_held(events: &mut Events, kept: Option<&Instance>, failed: bool)
     ensures { events.new ≡ all_changed (freed failed) (held_by_kept (option_copied kept.entry)) events.old }
 {
@@ -109,7 +109,7 @@ pub(crate) fn free_held(events: &mut Events, kept: Option<&Instance>, failed: bo
     }
 }
 
-/// These events are held once less each. Takes no memory.
+/// Removes a hold from each of these events. Takes no memory.
 #[tactic(auto, using(crate::proofs::Holds::ids_left))]
 pub(crate) fn free_ids(events: &mut Events, ids: &[EventId])
     ensures { events.new ≡ all_changed (freed false) (as_holders ids.now) events.old }
@@ -119,7 +119,7 @@ pub(crate) fn free_ids(events: &mut Events, ids: &[EventId])
     }
 }
 
-/// What an instance held is held once less, for each leaf of its `stop on` too.
+/// Removes a hold from each event that an instance held, for each leaf of its `stop on` too.
 pub(crate) fn free_all_of(
     alloc: Global,
     events: &mut Events,
@@ -134,7 +134,6 @@ pub(crate) fn free_all_of(
     Ok(())
 }
 
-/// An event is held so many times more.
 #[tactic(auto, using(crate::proofs::Holds::times_left))]
 pub(crate) fn hold_times(events: &mut Events, id: EventId, times: usize) -> Result<(), AllocError>
     ensures { OnOk result (events.new ≡ all_changed with_hold (as_holders (replicate times id)) events.old) }

@@ -57,7 +57,7 @@ fn others_of(alloc: Global, instances: &Instances) -> Result<Index, AllocError>
     Index::of_places(places)
 }
 
-// What is asked for by which a process of an instance is started.
+// The output that starts a process of an instance.
 fn order_at(
     alloc: Global,
     instances: &Instances,
@@ -73,7 +73,7 @@ fn order_at(
     }
 }
 
-// What is asked for by which main of an instance gets a signal.
+// The output that sends a signal to main of an instance.
 fn signal_at(
     instances: &Instances,
     key: InstanceKey,
@@ -91,7 +91,7 @@ fn signal_at(
 }
 
 impl Ledger {
-    /// Nothing has happened to the jobs of a table.
+    /// The ledger of these jobs before the first step.
     pub fn new(alloc: Global, files: &[JobFile]) -> Result<Self, AllocError>
         requires { AreInOrder name_of files.now }
         ensures { IfOk result (λ ledger. (base : Bindings) → Stands ledger Resting (started_with base files.now) []) }
@@ -108,7 +108,7 @@ impl Ledger {
         })
     }
 
-    // What a client is told of an instance that its request acted on.
+    // The text for a client about an instance that its request acted on.
     fn told_of(&self, on: &ActedOn) -> Result<Text, AllocError>
         ensures { IfOk result (λ text. (config : Configuration) (c : Chronicle)
             → Stands self.now Stepping config c → OnMeans config c (Some on.now)
@@ -123,7 +123,7 @@ impl Ledger {
         }
     }
 
-    // What a client is told at the end of the step, if it doesn't wait.
+    // The text for a client at the end of the step, if it doesn't wait.
     fn told_last(&self) -> Result<Text, AllocError>
         ensures { IfOk result (λ text. (config : Configuration) (c : Chronicle)
             → Stands self.now Stepping config c → text ≡ status_if (request_instance c) c) }
@@ -137,7 +137,7 @@ impl Ledger {
         }
     }
 
-    // An event that tells that another was spoilt goes to the end of the queue, if there is one.
+    // Queues an event that reports that another was spoilt, if there is one.
     fn tell_if(&mut self, told: Option<Event>) -> Result<(), AllocError>
         ensures after { OnOk result ((config : Configuration) (c : Chronicle) (spoilt : ℕ)
             → Stands self.old Stepping config c → Stands self.new Stepping config (telling spoilt told ++ c)) }

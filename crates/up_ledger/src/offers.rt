@@ -1,4 +1,4 @@
-//! Offers of events to expressions, and what becomes of those that fire.
+//! Offers of events to expressions, and the firing of expressions.
 ghost use Rattle.std.specs.Prelude.{◌≡◌, ◌++◌, ◌∷◌, ℕ, List, [], false, true, map, replicate, Some, IfOk, OnOk};
 ghost use Rattle.up_ledger.specs.Eventing.{SamePlaces};
 ghost use Rattle.up_ledger.specs.Hearing.{Fires, Hears, trigger_at, trigger_in};
@@ -90,7 +90,7 @@ impl Past {
         }
     }
 
-    /// An event is offered to the `stop on` of an instance; returns whether that is true then.
+    /// Offers an event to the `stop on` of an instance; returns whether that is then true.
     pub(crate) fn offer_stop(
         &mut self,
         alloc: Global,
@@ -155,8 +155,8 @@ impl Past {
         }
     }
 
-    /// An event is offered to the `start on` of the job at a place of the table, whose environment this is; returns whether that is
-    /// true then.
+    /// Offers an event to the `start on` of the job at a place of the table, whose environment this is; returns whether that is then
+    /// true.
     pub(crate) fn offer_start(
         &mut self,
         alloc: Global,

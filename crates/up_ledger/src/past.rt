@@ -117,7 +117,7 @@ fn triggers_of(alloc: Global, jobs: &[JobFile]) -> Result<Vec<Trigger>, AllocErr
     Ok(triggers)
 }
 
-// What these expressions keep is freed.
+// Removes the holds on the events that these expressions keep.
 fn free_starts(alloc: Global, events: &mut Events, starts: &[Trigger]) -> Result<(), AllocError>
     ensures { OnOk result (events.new ≡ all_changed (freed false) (as_holders (all_kept starts.now)) events.old) }
 {
@@ -131,7 +131,7 @@ fn free_starts(alloc: Global, events: &mut Events, starts: &[Trigger]) -> Result
 impl Past {
     ghost use Rattle.up_ledger.specs.Standing.{Forgets, event_place, instance_place};
 
-    /// Nothing has happened to the jobs of a table.
+    /// The past of these jobs before the first step.
     pub(crate) fn new(alloc: Global, files: &[JobFile]) -> Result<Self, AllocError>
         requires { AreInOrder name_of files.now }
         ensures { IfOk result (λ past. (base : Bindings) → Forgets past (started_with base files.now) []) }
@@ -146,7 +146,7 @@ impl Past {
         })
     }
 
-    /// What the clock reads.
+    /// The reading of the clock, in milliseconds.
     pub(crate) fn now(&self) -> u64
         ensures { (config : Configuration) (c : Chronicle) → Forgets self.now config c
             → result ≡ clock.now c }
@@ -154,7 +154,6 @@ impl Past {
         self.reading
     }
 
-    /// How many events haven't finished.
     pub(crate) fn live_events(&self) -> usize
         ensures { (config : Configuration) (c : Chronicle) → Forgets self.now config c
             → result ≡ length (queue c) }
@@ -162,7 +161,7 @@ impl Past {
         self.events.len()
     }
 
-    /// What a turn would do. Takes no memory.
+    /// What the next turn would do. Takes no memory.
     pub(crate) fn turn(&self) -> Option<(EventId, TurnKind)>
         ensures { (config : Configuration) (c : Chronicle) → Forgets self.now config c
             → turn_at (event_place self.now c) result
@@ -182,7 +181,7 @@ impl Past {
         take_up(&mut self.events, id);
     }
 
-    /// An event that nobody holds leaves the queue; returns how it ended, and the instance that waited for it, if one did. Takes no
+    /// An event that nobody holds leaves the queue; returns its outcome, and the instance that waited for it, if one did. Takes no
     /// memory.
     pub(crate) fn finish(&mut self, id: EventId) -> (Option<Finished>, Option<InstanceKey>)
         ensures after { (config : Configuration) (c : Chronicle) (e : ℕ) → Forgets self.old config c
@@ -216,7 +215,7 @@ impl Past {
         Ok(())
     }
 
-    /// An event that tells that another was spoilt goes to the end of the queue.
+    /// An event that reports that another was spoilt goes to the end of the queue.
     pub(crate) fn queue_failure_event(&mut self, event: Event) -> Result<(), AllocError>
         ensures { OnOk result ((config : Configuration) (c : Chronicle) (spoilt : ℕ)
             → Forgets self.old config c
@@ -226,7 +225,7 @@ impl Past {
         Ok(())
     }
 
-    /// An input is given; one of a process speaks of this instance, if it exists. Takes no memory.
+    /// A step begins with an input; if that is about a process, `on` is its instance, if it exists. Takes no memory.
     pub(crate) fn begin_step(&mut self, input: &Input, on: Option<InstanceKey>)
         ensures after { (config : Configuration) (c : Chronicle) → Forgets self.old config c
             → SpeaksOf config on input.now c → Forgets self.new config (entry.Given input.now ∷ c) }
@@ -244,7 +243,7 @@ impl Past {
         }
     }
 
-    /// These jobs come into force. What the `start on` of those before keep is freed, and instances go on.
+    /// These jobs come into force. The events that the `start on` of those before keep are released; instances continue.
     pub(crate) fn load(&mut self, alloc: Global, files: &[JobFile]) -> Result<(), AllocError>
         requires { AreInOrder name_of files.now }
         ensures { OnOk result ((config : Configuration) (c : Chronicle) (jobs : List JobValue)
@@ -295,7 +294,7 @@ impl Past {
         }
     }
 
-    // A reading of the clock is given. Takes no memory.
+    // Notes a reading of the clock, in milliseconds. Takes no memory.
     fn give_reading(&mut self, reading: u64)
         ensures after { (config : Configuration) (c : Chronicle) → Forgets self.old config c
             → Forgets self.new config (entry.Given (given_as.Clock reading) ∷ c) }
@@ -432,7 +431,6 @@ impl Past {
         self.instances.change_at(key, Change::Ends);
     }
 
-    /// A restart of an instance is taken, with these holders.
     pub(crate) fn restart(
         &mut self,
         key: InstanceKey,
@@ -450,7 +448,7 @@ impl Past {
         Ok(())
     }
 
-    /// An instance lets its holders go. Takes no memory.
+    /// An instance releases its holders. Takes no memory.
     pub(crate) fn let_go(&mut self, key: InstanceKey, none: Items<Holder>)
         ensures after { (config : Configuration) (c : Chronicle) (i : ℕ)
             → Forgets self.old config c → instance_place self.old c key ≡ Some i → none ≡ []
@@ -461,7 +459,7 @@ impl Past {
         self.instances.change_at(key, Change::Releases(none));
     }
 
-    /// An instance that failed lets its holders go, which spoils the events among them. Takes no memory.
+    /// An instance that failed releases its holders, which spoils the events among them. Takes no memory.
     pub(crate) fn let_go_failed(&mut self, key: InstanceKey, none: Items<Holder>)
         ensures { (config : Configuration) (c : Chronicle) (i : ℕ)
             → Forgets self.old config c → instance_place self.old c key ≡ Some i → none ≡ []
@@ -553,7 +551,7 @@ impl Past {
         Ok(())
     }
 
-    /// An instance enters waiting with its last event, and is gone.
+    /// An instance enters waiting with its last event, and is removed.
     pub(crate) fn leave(
         &mut self,
         alloc: Global,
@@ -576,7 +574,7 @@ impl Past {
         Ok(())
     }
 
-    // Takes an instance out. What it held is held no more.
+    // Removes an instance and its holds.
     fn bury(&mut self, alloc: Global, key: InstanceKey) -> Result<(), AllocError>
         ensures { OnOk result ((gone : InstanceValue) → kept_at key self.old.instances ≡ Some gone
             → self.new ≡ record self.old {
@@ -594,7 +592,7 @@ impl Past {
         }
     }
 
-    /// The job at a place of the table gets an instance, by this file of it.
+    /// Makes an instance of the job at a place of the table, from this file of the job.
     pub(crate) fn make(
         &mut self,
         alloc: Global,

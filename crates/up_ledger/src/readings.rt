@@ -63,7 +63,6 @@ fn is_alive(kept: &Instance, process: Process) -> bool
 impl Past {
     ghost use Rattle.up_ledger.specs.Standing.{Forgets, event_place, instance_place};
 
-    /// Where an instance is heading.
     pub(crate) fn goal(&self, key: InstanceKey) -> Goal
         ensures { (config : Configuration) (c : Chronicle) (i : ℕ) → Forgets self.now config c
             → instance_place self.now c key ≡ Some i → result ≡ read.goal i c }
@@ -74,7 +73,6 @@ impl Past {
         }
     }
 
-    /// The state of an instance.
     pub(crate) fn state_of(&self, key: InstanceKey) -> State
         ensures { (config : Configuration) (c : Chronicle) (i : ℕ) → Forgets self.now config c
             → instance_place self.now c key ≡ Some i → result ≡ read.state_of i c }
@@ -96,7 +94,7 @@ impl Past {
         }
     }
 
-    /// The job file by which an instance was made.
+    /// The job file from which an instance was made.
     pub(crate) fn file(&self, key: InstanceKey) -> Option<&JobFile>
         ensures { (config : Configuration) (c : Chronicle) (i : ℕ) → Forgets self.now config c
             → instance_place self.now c key ≡ Some i → option_copied result ≡ read.file_of i c }
@@ -126,14 +124,14 @@ impl Past {
         self.instances.alarm()
     }
 
-    /// The alarm is set to the earliest moment at which somebody is to be killed. Takes no memory.
+    /// Sets the alarm to the earliest moment at which the timer kills somebody. Takes no memory.
     pub(crate) fn set_alarm(&mut self)
         ensures { self.new ≡ self.old }
     {
         self.instances.set_alarm();
     }
 
-    /// Why an instance failed since it entered starting last.
+    /// Why an instance failed since it last entered starting.
     pub(crate) fn failure(&self, key: InstanceKey) -> Option<Failure>
         ensures { (config : Configuration) (c : Chronicle) (i : ℕ) → Forgets self.now config c
             → instance_place self.now c key ≡ Some i → result ≡ read.failure i c }
@@ -178,7 +176,6 @@ impl Past {
         }
     }
 
-    /// Whether a process lives.
     pub(crate) fn lives(&self, key: InstanceKey, process: Process) -> bool
         ensures { (config : Configuration) (c : Chronicle) (i : ℕ) → Forgets self.now config c
             → instance_place self.now c key ≡ Some i → result ≡ read.lives i process c }
@@ -189,7 +186,7 @@ impl Past {
         }
     }
 
-    /// Whether the limit of its file allows one respawn more of an instance (init(5), `respawn limit`).
+    /// Whether the limit in its file allows one more respawn of an instance (init(5), `respawn limit`).
     pub(crate) fn may_respawn(&self, key: InstanceKey) -> bool
         ensures { (config : Configuration) (c : Chronicle) (i : ℕ) (job : JobValue) → Forgets self.now config c
             → instance_place self.now c key ≡ Some i → read.file_of i c ≡ Some job
@@ -201,7 +198,6 @@ impl Past {
         }
     }
 
-    /// How many instances the job at a place of the table has.
     pub(crate) fn count(&self, job: usize) -> usize
         ensures { (config : Configuration) (c : Chronicle) (its : JobValue) → Forgets self.now config c
             → nth job config.jobs ≡ Some its → result ≡ length (instances_of its.name c) }
@@ -209,7 +205,6 @@ impl Past {
         self.instances.count(job)
     }
 
-    /// The key of an instance of the job at a place of the table, by its name.
     pub(crate) fn find(&self, job: usize, name: &str) -> Option<InstanceKey>
         ensures place { (config : Configuration) (c : Chronicle) (its : JobValue) → Forgets self.now config c
             → nth job config.jobs ≡ Some its
@@ -219,7 +214,6 @@ impl Past {
         self.instances.position(job, name)
     }
 
-    /// The name of an instance.
     pub(crate) fn name(&self, key: InstanceKey) -> &str
         ensures { (config : Configuration) (c : Chronicle) (its : InstanceValue) → Forgets self.now config c
             → instance_at config c key ≡ Some its → result.now ≡ its.name }
@@ -230,7 +224,6 @@ impl Past {
         }
     }
 
-    /// The event that an id names, if it lives.
     pub(crate) fn event_at(&self, id: EventId) -> Option<&Event>
         ensures { (config : Configuration) (c : Chronicle) (e : ℕ) → Forgets self.now config c
             → event_place self.now c id ≡ Some e → option_copied result ≡ read.event_at e c }
@@ -241,7 +234,7 @@ impl Past {
         }
     }
 
-    /// Whether an instance that held an event let it go as failed.
+    /// Whether an instance that held an event released it as failed.
     pub(crate) fn is_spoilt(&self, id: EventId) -> bool
         ensures { (config : Configuration) (c : Chronicle) (e : ℕ) → Forgets self.now config c
             → event_place self.now c id ≡ Some e → result ≡ held.is_spoilt e c }

@@ -1,4 +1,4 @@
-//! What clients are answered that waited (initctl(8)).
+//! The answers to clients that waited (initctl(8)).
 ghost use Rattle.std.specs.Prelude.{◌≡◌, ◌++◌, ◌∷◌, [], None, IfSome, IsOk, IfOk, OnOk};
 ghost use Rattle.std.specs.Option.{option_copied};
 ghost use Rattle.up_ledger.specs.Holding.{held_by_kept};
@@ -16,14 +16,13 @@ use up_job::{Holder, Instance};
 use up_model::{Answer, Command, Output};
 use up_text::Text;
 
-/// No text.
 pub(crate) fn no_text(alloc: Global) -> Text
     ensures { result ≡ [] }
 {
     Text::new(String::new(alloc))
 }
 
-// What a client is told that waited in vain.
+// The text for a client that waited in vain.
 fn failed_text(command: Command) -> &'static str
     ensures { result.now ≡ model.failed_text command }
 {
@@ -64,7 +63,6 @@ fn event_answer(alloc: Global, spoilt: bool) -> Result<Answer, AllocError>
     Ok(answer)
 }
 
-// Answers a request.
 pub(crate) fn reply(outputs: &mut Vec<Output>, id: u64, answer: Answer) -> Result<(), AllocError>
     ensures { OnOk result (outputs.new.items ≡ outputs.old.items ++ output.Reply id answer ∷ []) }
 {
@@ -72,7 +70,7 @@ pub(crate) fn reply(outputs: &mut Vec<Output>, id: u64, answer: Answer) -> Resul
     Ok(())
 }
 
-/// Answers the request of a step, if it is one.
+/// Answers the request of a step, if there is one.
 pub(crate) fn reply_asked(
     outputs: &mut Vec<Output>,
     asked: Option<Asked>,

@@ -15,8 +15,8 @@ use up_job::InstanceKey;
 use up_model::{Command, Event, Input, Output};
 use up_text::Text;
 
-/// A request of which a step is the answer: the number under which it is answered, what it asks, whether its client waits, and whether
-/// it was answered in this step. A load is one too, which nothing but the load itself answers.
+/// The request of a step: the number of its answer, its command, whether its client waits, and whether it was answered in this step. A
+/// load is one too, which only the load itself answers.
 #[derive(Clone, Copy, Debug)]
 pub struct Asked {
     pub id: u64,
@@ -25,14 +25,14 @@ pub struct Asked {
     pub answered: bool,
 }
 
-/// The instance that a request acted on: one that exists, or the status text of one that went in this step.
+/// The instance that a request acted on: one that exists, or the status text of one that was removed in this step.
 #[derive(Drop)]
 pub enum ActedOn {
     Exists(InstanceKey),
     Gone(Text),
 }
 
-/// The request of a step, the instance that it acted on, and what the step asks for, in order.
+/// The request of a step, the instance that it acted on, and the outputs of the step, in order.
 #[derive(Drop)]
 pub struct Step {
     pub asked: Option<Asked>,
@@ -65,14 +65,13 @@ fn asked_in(input: &Input) -> Option<Asked>
     }
 }
 
-// Whether two keys stand for one instance.
 fn is_same(key: InstanceKey, other: InstanceKey) -> bool
     ensures { result ≡ same_key key other }
 {
     key.job == other.job && key.at == other.at
 }
 
-// Where an instance stands after the one of a key has left.
+// The key of an instance after the one of another key has left.
 #[tactic(auto, using(crate::proofs::Moved::left_so, crate::proofs::Moved::left_elsewhere))]
 fn after_left(on: InstanceKey, left: InstanceKey) -> InstanceKey
     ensures { result ≡ after_left left.job left.at on }
@@ -86,7 +85,7 @@ fn after_left(on: InstanceKey, left: InstanceKey) -> InstanceKey
     on
 }
 
-// Where an instance stands after one came to a key. No list is so long that this fails.
+// The key of an instance after one came to another key. No list is so long that this fails.
 #[tactic(auto, using(crate::proofs::Moved::made_so, crate::proofs::Moved::made_elsewhere))]
 fn after_made(on: InstanceKey, made: InstanceKey) -> Result<InstanceKey, AllocError>
     ensures { IfOk result (λ key. key ≡ after_made made.job made.at on) }
@@ -100,7 +99,7 @@ fn after_made(on: InstanceKey, made: InstanceKey) -> Result<InstanceKey, AllocEr
     Ok(on)
 }
 
-// What a request acted on that acted on this instance, once the one of a key has left.
+// What a request that acted on this instance refers to once the one of a key has left.
 fn once_left(on: InstanceKey, left: InstanceKey, told: Text) -> ActedOn
     ensures { Some result ≡ on_left left told (Some (Exists on)) }
 {
@@ -111,7 +110,7 @@ fn once_left(on: InstanceKey, left: InstanceKey, told: Text) -> ActedOn
     ActedOn::Exists(after_left(on, left))
 }
 
-/// The step asks for one thing more, or for nothing.
+/// Adds an output to those of the step, if there is one.
 pub(crate) fn put(outputs: &mut Vec<Output>, output: Option<Output>) -> Result<(), AllocError>
     ensures { OnOk result (outputs.new.items ≡ outputs.old.items ++ listed output) }
 {
@@ -122,7 +121,7 @@ pub(crate) fn put(outputs: &mut Vec<Output>, output: Option<Output>) -> Result<(
     Ok(())
 }
 
-/// An event is told of.
+/// Adds the output for an event.
 pub(crate) fn push_emitted(outputs: &mut Vec<Output>, event: &Event) -> Result<(), AllocError>
     ensures { OnOk result (outputs.new.items ≡ outputs.old.items ++ output.Emitted event.now ∷ []) }
 {
@@ -134,7 +133,7 @@ pub(crate) fn push_emitted(outputs: &mut Vec<Output>, event: &Event) -> Result<(
 impl Step {
     ghost use Rattle.up_ledger.specs.Steps.{IsStep};
 
-    /// A step begins with an input: it has asked for nothing, and acted on no instance. Takes no memory.
+    /// A step begins with an input: it has no outputs, and has acted on no instance. Takes no memory.
     pub(crate) fn new(alloc: Global, given: &Input) -> Self
         ensures { (config : Configuration) (c : Chronicle) → ((i : ℕ) → HoldsOlder i c)
             → IsStep result config (entry.Given given.now ∷ c) }
@@ -165,7 +164,7 @@ impl Step {
         }
     }
 
-    /// The number of the client that is still to be answered at the end of this step: one that doesn't wait, and wasn't answered.
+    /// The number of the client that is to be answered at the end of this step: one that doesn't wait, and wasn't answered.
     pub(crate) fn due(&self) -> Option<u64>
         ensures { result ≡ due_of self.now.asked }
     {
@@ -175,7 +174,7 @@ impl Step {
         }
     }
 
-    /// The client of this step's request was answered.
+    /// Notes that the client of this step's request was answered.
     pub(crate) fn answer(&mut self)
         ensures { self.new ≡ record self.old { asked = answered_of self.old.asked } }
     {
@@ -191,7 +190,7 @@ impl Step {
         self.on = Some(ActedOn::Exists(key));
     }
 
-    /// An instance leaves, of which this is told. Takes no memory.
+    /// An instance leaves; `told` is its status text. Takes no memory.
     pub(crate) fn leave(&mut self, key: InstanceKey, told: Text)
         ensures { self.new ≡ record self.old { on = on_left key told self.old.on } }
     {

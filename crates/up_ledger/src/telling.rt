@@ -1,4 +1,4 @@
-//! What clients are told of an instance.
+//! The texts for clients about an instance.
 ghost use Rattle.std.specs.Prelude.{◌≡◌, ◌∷◌, ℕ, Some, option_map, IfOk};
 ghost use Rattle.up_book.specs.Sending.{own_pid, status_by};
 ghost use Rattle.up_book.specs.Views.{Places, view};
@@ -17,7 +17,7 @@ use up_job::{Children, Instance, InstanceKey, Instances, child_of};
 use up_model::{Process, State, Who, status_text};
 use up_text::{Name, Text};
 
-// The process that a state orders beside main.
+// The process that a state orders besides main.
 fn own_process(state: State) -> Option<Process>
     ensures { result ≡ replies.own_process state }
 {

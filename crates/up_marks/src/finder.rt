@@ -1,4 +1,4 @@
-//! From an event and its values to the jobs that it may concern.
+//! Finds the jobs that an event may concern, by its name and its values.
 ghost use Rattle.std.specs.Prelude.{◌≡◌, ◌≤◌, true, false, not, IfOk, IfSome, IsTrue, Some, length};
 ghost use Rattle.std.specs.Cmp.Lexicographic.{slice_cmp};
 ghost use Rattle.std.specs.List.Sorted.{IsPartitionPoint, IsPermutation};
@@ -18,8 +18,7 @@ use up_image::{JobFile, MAX_JOBS, places_of_files};
 use up_model::Event;
 use up_text::Name;
 
-/// The leaves of all jobs, each with the value that it wants of an event, in an order in which those that name one event and
-/// want one value of it stand together.
+/// The leaves of all jobs, each with the value that it wants of an event. Those with the same event and the same value are adjacent.
 #[derive(Debug, Drop)]
 pub struct Finder {
     leaves: Vec<Wanted>,
@@ -71,7 +70,7 @@ fn sort_leaves(leaves: &mut Vec<Wanted>)
     leaves.sort_unstable_by(|leaf, other| compare_leaves(leaf, other));
 }
 
-// How many leaves name events that are below one.
+// The number of leaves with events below `name`.
 fn below_len(leaves: &[Wanted], name: &Name) -> usize
     requires { AreOrdered leaves.now }
     ensures below { IsPartitionPoint (λ leaf. is_below leaf.place.event name.now ≡ true)
@@ -81,7 +80,7 @@ fn below_len(leaves: &[Wanted], name: &Name) -> usize
     leaves.partition_point(|leaf| leaf.place.event.as_str().cmp(name.as_str()).is_lt())
 }
 
-// How many name events that aren't above one.
+// The number of leaves with events up to `name`.
 fn upto_len(leaves: &[Wanted], name: &Name) -> usize
     requires { AreOrdered leaves.now }
     ensures upto { IsPartitionPoint (λ leaf. not (is_below name.now leaf.place.event) ≡ true)
@@ -91,7 +90,6 @@ fn upto_len(leaves: &[Wanted], name: &Name) -> usize
     leaves.partition_point(|leaf| !name.as_str().cmp(leaf.place.event.as_str()).is_lt())
 }
 
-// Those of ordered leaves that name an event.
 fn of_event<'a>(leaves: &'a [Wanted], name: &Name) -> &'a [Wanted]
     requires { AreOrdered leaves.now }
     ensures { result.now ≡ finding.of_event name.now leaves.now }
@@ -101,7 +99,7 @@ fn of_event<'a>(leaves: &'a [Wanted], name: &Name) -> &'a [Wanted]
     run
 }
 
-// How many leaves come before those that name an event, want a value of it, and aren't of earlier jobs.
+// The number of leaves before those that name an event, want this value of it, and aren't of earlier jobs.
 fn before_len(leaves: &[Wanted], name: &Name, value: &str, job: usize) -> usize
     requires { AreOrdered leaves.now }
     ensures before { IsPartitionPoint (λ leaf. is_before (key_of leaf) (name.now, value.now, job) ≡ true)
@@ -133,7 +131,7 @@ fn first_wanting(leaves: &[Wanted], jobs: &[JobFile], event: &Event, value: &str
     None
 }
 
-// The first job from one on with a leaf that wants this value of an event, and may match it.
+// The first job at or after `from` with a leaf that wants this value of an event, and may match it.
 fn next_wanting(
     leaves: &[Wanted],
     jobs: &[JobFile],
@@ -148,7 +146,7 @@ fn next_wanting(
     first_wanting(later, jobs, event, value)
 }
 
-// Whether a job was found that no other can come before.
+// Whether the job that was found is `from`, before which there can be none.
 fn is_first(next: Option<usize>, from: usize) -> bool
     ensures { IsTrue result → next ≡ Some from }
 {
@@ -158,7 +156,7 @@ fn is_first(next: Option<usize>, from: usize) -> bool
     }
 }
 
-// The first job from one on with a leaf that wants nothing or a value that an event has, and may match it.
+// The first job at or after `from` with a leaf that wants no value or one that the event has, and may match it.
 fn next_wanted(leaves: &[Wanted], jobs: &[JobFile], event: &Event, from: usize) -> Option<usize>
     requires { AreOrdered leaves.now }
     ensures { IsLeastFrom (has_wanted (admits jobs.now event.now) event.now.name event.now.vars leaves.now) from result }
@@ -174,7 +172,7 @@ fn next_wanted(leaves: &[Wanted], jobs: &[JobFile], event: &Event, from: usize) 
     next
 }
 
-/// The lesser of two, if there are two.
+/// The lesser of two, or the only one.
 pub fn lesser_of(one: Option<usize>, other: Option<usize>) -> Option<usize>
     ensures { result ≡ lesser one other }
 {
@@ -186,7 +184,7 @@ pub fn lesser_of(one: Option<usize>, other: Option<usize>) -> Option<usize>
 }
 
 impl Finder {
-    /// The finder of jobs. It is refused to more than a table may have, as if memory ran out.
+    /// The finder of jobs. More jobs than a table may have are refused as if out of memory.
     pub fn of(alloc: Global, files: &[JobFile]) -> Result<Self, AllocError>
         ensures { IfOk result (λ finder. Finds finder files.now) }
     {
@@ -199,8 +197,8 @@ impl Finder {
         Ok(Finder { leaves })
     }
 
-    /// The first job from one on with a leaf that may match an event, of the jobs that this is the finder of. It looks at no leaf
-    /// that wants a value that no variable of the event has. Takes no memory.
+    /// The first job at or after `from` with a leaf that may match an event; `jobs` are those of this finder. Skips leaves that want a
+    /// value that no variable of the event has. Takes no memory.
     pub fn next_job(&self, jobs: &[JobFile], event: &Event, from: usize) -> Option<usize>
         ensures next { Finds self.now jobs.now → IsNextJob (admits jobs.now event.now) from
             (named event.now.name (places_of 0 jobs.now)) result }

@@ -1,4 +1,4 @@
-//! From an event's name to the leaves that name it.
+//! Finds the leaves that name an event.
 ghost use Rattle.std.specs.Prelude.{◌≡◌, ◌≤◌, ◌<◌, ◌==◌, not, nat_lt, ℕ, Bool, IfOk, length, map, true, false, slice_index_or};
 ghost use Rattle.std.specs.List.{prefix_len};
 ghost use Rattle.std.specs.List.Sorted.{IsPartitionPoint};
@@ -38,7 +38,7 @@ fn is_below(name: &Name, other: &Name) -> bool
     name.as_str().cmp(other.as_str()).is_lt()
 }
 
-// How many of these events are below one.
+// The number of places with events below `name`.
 fn below_len(places: &[Place], name: &Name) -> usize
     requires { IsAscending places.now }
     ensures below { IsPartitionPoint (λ place. is_below place.event name.now ≡ true)
@@ -48,7 +48,7 @@ fn below_len(places: &[Place], name: &Name) -> usize
     places.partition_point(|place| is_below(&place.event, name))
 }
 
-// How many of these events aren't above one.
+// The number of places with events up to `name`.
 fn upto_len(places: &[Place], name: &Name) -> usize
     requires { IsAscending places.now }
     ensures upto { IsPartitionPoint (λ place. not (is_below name.now place.event) ≡ true)
@@ -58,7 +58,7 @@ fn upto_len(places: &[Place], name: &Name) -> usize
     places.partition_point(|place| !is_below(name, &place.event))
 }
 
-// Those of ascending places that name an event.
+// The places with this event.
 fn run_of<'a>(places: &'a [Place], name: &Name) -> &'a [Place]
     requires { IsAscending places.now }
     ensures { result.now ≡ named name.now places.now }
@@ -82,7 +82,7 @@ fn rank_of(place: &Place) -> u32
     rank(place.job, place.start)
 }
 
-// How many of these places are of earlier expressions.
+// The number of places of earlier expressions.
 fn earlier_len(places: &[Place], rank: u32) -> usize
     requires { Rising 0 places.now }
     ensures earlier { IsPartitionPoint (λ place. nat_lt (rank_of place) rank ≡ true)
@@ -92,7 +92,7 @@ fn earlier_len(places: &[Place], rank: u32) -> usize
     places.partition_point(|place| rank_of(place) < rank)
 }
 
-// How many places from the first one on are of one expression.
+// The number of leading places of this expression.
 fn leaves_len(places: &[Place], rank: u32) -> usize
     ensures counted { result ≡ prefix_len (λ place. rank_of place == rank) places.now }
     ensures within { result ≤ length places.now }
@@ -103,7 +103,7 @@ fn leaves_len(places: &[Place], rank: u32) -> usize
         .count()
 }
 
-// Those of rising places that are of an expression or a later one.
+// The places of this expression and later ones.
 fn later_of(places: &[Place], job: u16, start: bool) -> &[Place]
     requires { Rising 0 places.now }
     ensures { result.now ≡ from_expression job start places.now }
@@ -112,7 +112,6 @@ fn later_of(places: &[Place], job: u16, start: bool) -> &[Place]
     later
 }
 
-// Those that are of an expression.
 fn leaves_of(places: &[Place], job: u16, start: bool) -> &[Place]
     requires { Rising 0 places.now }
     ensures { result.now ≡ of_expression job start places.now }
@@ -123,7 +122,7 @@ fn leaves_of(places: &[Place], job: u16, start: bool) -> &[Place]
 }
 
 impl Index {
-    /// The index of places, of which none is of an earlier expression than one before it.
+    /// The index of places that are in the order of their expressions.
     pub fn of_places(places: Vec<Place>) -> Result<Self, AllocError>
         requires { Rising 0 places.items }
         ensures { IfOk result (λ index. (name : Bytes) → named name index ≡ named name places.items) }
@@ -133,7 +132,7 @@ impl Index {
         Ok(Index { places })
     }
 
-    /// The index of jobs. It is refused to more than a table may have, as if memory ran out.
+    /// The index of jobs. More jobs than a table may have are refused as if out of memory.
     pub fn of(alloc: Global, files: &[JobFile]) -> Result<Self, AllocError>
         ensures places { IfOk result (λ index. (name : Bytes)
             → named name index ≡ named name (places_of 0 files.now)) }
@@ -156,7 +155,7 @@ impl Index {
         run_of(self.places.as_slice(), name)
     }
 
-    /// Those of one expression: of what stops a job, or of what starts it. Takes no memory.
+    /// Those of one expression: the `stop on` of a job, or its `start on`. Takes no memory.
     pub fn leaves(&self, name: &Name, job: u16, start: bool) -> &[Place]
         ensures { result.now ≡ of_expression job start (named name.now self.now) }
     {

@@ -1,4 +1,4 @@
-//! Which node of an expression stands above another: the one that joins it to what is beside it.
+//! The node above another in an expression: the one that joins it to what is beside it.
 ghost use Rattle.std.specs.Prelude.{◌≡◌, ◌<◌, length};
 ghost use Rattle.up_marks.specs.Settling.{IsAbove, joins};
 
@@ -17,7 +17,7 @@ fn joins(node: &Node, place: usize) -> bool
     }
 }
 
-// The place of the node above this one, by a look at each later one.
+// The place of the node above this one, found by a look at each later one.
 fn search_above(nodes: &[Node], place: usize) -> usize
     requires { place < length nodes.now }
     ensures { IsAbove nodes.now place result }
@@ -47,14 +47,13 @@ pub(crate) fn node_above(nodes: &[Node], hints: &[u16], place: usize) -> usize
     search_above(nodes, place)
 }
 
-// Notes where the node above a place is.
 fn note(hints: &mut [u16], place: u16, above: u16) {
     if let Some(hint) = hints.get_mut(usize::from(place)) {
         *hint = above;
     }
 }
 
-// Notes it of the sides that the node at a place joins.
+// Notes the node above both sides of a node.
 fn note_sides(hints: &mut [u16], node: &Node, above: u16) {
     match node {
         Node::Leaf(_) => {}

@@ -20,7 +20,6 @@ pub(crate) fn root_holds(marks: &[Mark]) -> bool
     marks[marks.len() - 1].holds
 }
 
-// Whether the node at a place is marked as true.
 fn true_at(marks: &[Mark], place: usize) -> bool
     ensures { result ≡ true_at marks.now place }
 {
@@ -45,7 +44,7 @@ fn holds_by(node: &Node, mark: Mark, marks: &[Mark]) -> bool
     }
 }
 
-// Marks the node at a place as true if it is, and so those above it, up to the first whose mark stays.
+// Marks the node at a place as true if it is, and likewise those above it, up to the first whose mark stays.
 fn settle(nodes: &[Node], hints: &[u16], marks: &mut [Mark], from: usize)
     requires { length marks.old ≡ length nodes.now }
     ensures { (kept : Kept) (tree : Tree) → nodes.now ≡ nodes_of 0 tree
@@ -63,7 +62,7 @@ fn settle(nodes: &[Node], hints: &[u16], marks: &mut [Mark], from: usize)
     }
 }
 
-/// The leaf at a place keeps an event, and the nodes above it come true by that.
+/// Makes the leaf at a place keep an event, and marks the nodes above it that become true.
 pub(crate) fn keep(
     condition: &Condition,
     hints: &[u16],
@@ -85,7 +84,6 @@ pub(crate) fn keep(
     }
 }
 
-/// The leaves at these places keep an event.
 pub(crate) fn keep_all(
     condition: &Condition,
     hints: &[u16],

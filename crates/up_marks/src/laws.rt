@@ -1,4 +1,4 @@
-//! Laws: what an offer leaves alone, so that an engine may offer an event to the leaves alone that name it.
+//! Laws: what an offer leaves unchanged, so that an engine need only offer an event to the leaves that name it.
 ghost use Rattle.std.specs.Prelude.{◌≡◌, ◌<◌, ◌≤◌, ℕ, nat_lt, true, false, List, [], ◌∷◌, ◌++◌, Option, None, Some};
 ghost use Rattle.up_conf.specs.declared.job.JobDef.{JobDef};
 ghost use Rattle.up_expr.specs.Trees.{Tree};
@@ -60,7 +60,7 @@ pub fn unnamed_needs_no_offer()
         → Agrees event_of marks tree (sights ++ sight ∷ []) }
 {}
 
-/// Marks that agree go on to do so if other ids come to stand for other events.
+/// Marks that agree still do so if other ids come to mean other events.
 pub fn other_ids_may_change()
     ensures { (event_of moved : EventId → Option ℕ) (marks : List Mark) (tree : Tree) (sights : List Sight)
         → ((id : EventId) → 0 < uses id marks → moved id ≡ event_of id)
@@ -79,8 +79,7 @@ pub fn skipping_comes_to_rest()
         → next_skip config (skip n config c) ≡ None }
 {}
 
-/// Where none is left, and no instance may move, the next expression names the event, if it isn't true
-/// already.
+/// If none is left, and no instance may move, the next expression names the event, unless it is already true.
 pub fn next_is_named()
     ensures { (config : Configuration) (next : Next) (e : ℕ) (c : Chronicle) → move_first (names_in_order config c) c ≡ []
         → offering c ≡ Some e → next_offer config.jobs c ≡ Some next → next_skip config c ≡ None
@@ -96,8 +95,7 @@ pub fn offered_is_seen()
         ≡ seen config x c ++ sight_of e event.name event.vars (env_of config x c) ∷ [] }
 {}
 
-/// An expression holds an event if its marks keep the event's id, which no other id that they keep stands
-/// for.
+/// An expression holds an event exactly if its marks keep the event's id, if no other id that they keep means it.
 pub fn held_by_uses()
     ensures { (event_of : EventId → Option ℕ) (marks : List Mark) (tree : Tree) (sights : List Sight)
         (id : EventId)

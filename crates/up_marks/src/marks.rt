@@ -49,7 +49,7 @@ pub struct Offer {
 }
 
 impl Marks {
-    /// What an expression remembers that has seen nothing. All room that its leaves ever need is taken here.
+    /// The marks of an expression that has seen nothing. Allocates all room that its leaves ever need.
     pub fn new(alloc: Global, condition: &Condition) -> Result<Self, AllocError>
         ensures { IfOk result (λ marks. (event_of : EventIdValue → Option ℕ)
             → Agrees event_of marks condition.now []) }
@@ -65,14 +65,13 @@ impl Marks {
         self.marks.as_slice()
     }
 
-    /// Whether they may be those of an expression.
+    /// Whether there are as many as an expression has nodes.
     pub fn fits(&self, condition: &Condition) -> bool
         ensures { result ≡ (length self.now == size condition.now) }
     {
         self.as_slice().len() == condition.nodes().len()
     }
 
-    /// Whether the expression is true.
     pub fn holds(&self) -> bool
         ensures { (event_of : EventIdValue → Option ℕ) (tree : Tree) (sights : List Sight)
             → Agrees event_of self.now tree sights → result ≡ truth.holds tree sights }
@@ -84,8 +83,7 @@ impl Marks {
         root_holds(marks)
     }
 
-    /// Offers an event to the leaves at these places, which are those that name it. Where memory is refused
-    /// nothing changes.
+    /// Offers an event to the leaves at these places, which are those that name it. When out of memory, nothing changes.
     pub fn offer(
         &mut self,
         alloc: Global,
@@ -168,8 +166,7 @@ impl Marks {
         reset_all(&mut self.marks);
     }
 
-    /// Forgets all events and returns them, one for each leaf that kept one, from left to right. Where memory
-    /// is refused nothing changes.
+    /// Forgets all events and returns them, one for each leaf that kept one, from left to right. When out of memory, nothing changes.
     pub fn clear(&mut self, alloc: Global) -> Result<Items<EventId>, AllocError>
         ensures ids { IfOk result (λ kept. kept ≡ kept_in self.old) }
         ensures none { OnOk result (kept_in self.new ≡ []) }

@@ -12,7 +12,7 @@ use up_image::Place;
 use up_model::{Event, EventId};
 use up_text::Env;
 
-// The leaf at a place keeps an event, if that is new to it. Returns how many leaves do.
+// Makes the leaf at a place keep an event, if that is new to it. Returns the number of leaves that do.
 fn offer_to_one(
     alloc: Global,
     condition: &Condition,
@@ -42,7 +42,7 @@ fn offer_to_one(
     }
 }
 
-// The same of several places. Which of them match is known before any mark is set, as memory may be refused.
+// The same for several places. Finds all that match before it sets a mark, as memory may run out.
 fn offer_to_all(
     alloc: Global,
     condition: &Condition,
@@ -70,7 +70,7 @@ fn offer_to_all(
     Ok(matched.len())
 }
 
-/// The leaves at these places keep an event, if that is new to them. Returns how many leaves do.
+/// Makes the leaves at these places keep an event, if that is new to them. Returns the number of leaves that do.
 pub(crate) fn offer_to(
     alloc: Global,
     condition: &Condition,
@@ -99,7 +99,7 @@ pub(crate) fn offer_to(
     }
 }
 
-/// The same in a vector of marks.
+/// The same for a vector of marks.
 #[tactic(auto, using(crate::proofs::Markings::written))]
 pub(crate) fn offer_in(
     alloc: Global,

@@ -5,7 +5,7 @@ ghost use Rattle.up_marks.specs.Marking.{unset};
 use crate::mark::Mark;
 use std::alloc::{AllocError, Global};
 
-/// So many marks of nodes that aren't true.
+/// `count` marks of nodes that aren't true.
 pub(crate) fn unset_marks(alloc: Global, count: usize) -> Result<Vec<Mark>, AllocError>
     ensures { IfOk result (λ marks. marks.items ≡ replicate count unset) }
 {
@@ -17,7 +17,6 @@ pub(crate) fn unset_marks(alloc: Global, count: usize) -> Result<Vec<Mark>, Allo
     Ok(marks)
 }
 
-// Makes marks those of nodes that aren't true.
 fn reset_marks(marks: &mut [Mark])
     ensures { marks.new ≡ replicate (length marks.old) unset }
 {
@@ -27,7 +26,6 @@ fn reset_marks(marks: &mut [Mark])
     });
 }
 
-/// Makes all marks those of nodes that aren't true.
 #[tactic(auto, using(crate::proofs::Markings::written))]
 pub(crate) fn reset_all(marks: &mut Vec<Mark>)
     ensures { marks.new.items ≡ replicate (length marks.old.items) unset }

@@ -15,7 +15,7 @@ use up_image::{JobFile, Place};
 use up_model::Event;
 use up_text::{Env, Name, Text};
 
-// So many keys are few.
+// The most variables that are looked at one by one.
 const FEW: usize = 8;
 
 // A byte that neither an expansion nor a pattern reads as anything but itself.
@@ -25,14 +25,14 @@ fn is_literal_byte(byte: u8) -> bool
     byte != b'$' && !(byte == b'*' || byte == b'?' || byte == b'[' || byte == b'\\')
 }
 
-/// Whether a text stands for itself alone, whatever expands it and matches it as a pattern.
+/// Whether a text means only itself, both when expanded and when matched as a pattern.
 pub(crate) fn is_literal(text: &[u8]) -> bool
     ensures { result ≡ ruling.is_literal text.now }
 {
     text.iter().all(|byte| is_literal_byte(*byte))
 }
 
-// Whether a variable can't have a value: there is none, or the value is a literal and another.
+// Whether a variable can't match a value: it is absent, or the value is a literal that differs.
 fn is_another(value: &Text, found: Option<&str>) -> bool
     ensures { result ≡ ruling.is_another value.now (option_map (λ text. text.now) found.entry) }
 {
@@ -42,7 +42,6 @@ fn is_another(value: &Text, found: Option<&str>) -> bool
     }
 }
 
-// The value of the variable at a place, if there is one.
 fn nth_value(vars: &Env, k: usize) -> Option<&str>
     ensures { option_map (λ value. value.now) result ≡ nth_value k vars.now }
 {
@@ -67,7 +66,7 @@ fn find<'a>(vars: &'a Env, key: &str) -> Option<&'a str>
     None
 }
 
-// The value of a key. Among few a look at each is faster than the key's hash.
+// The value of a key. Among few keys a look at each is faster than a hash.
 fn value_of<'a>(vars: &'a Env, key: &str) -> Option<&'a str>
     ensures { option_map (λ value. value.now) result ≡ value_of key.now vars.now }
 {
@@ -78,7 +77,7 @@ fn value_of<'a>(vars: &'a Env, key: &str) -> Option<&'a str>
     }
 }
 
-// Whether the test at a place fails in any environment.
+// Whether the test at a place fails in every environment.
 fn fails(test: &Test, k: usize, vars: &Env) -> bool
     ensures { result ≡ ruling.fails vars.now k test.now }
 {
@@ -98,7 +97,7 @@ fn is_positional(test: &Test) -> bool
     }
 }
 
-// Whether one of these tests fails in any environment.
+// Whether one of these tests fails in every environment.
 fn one_fails(tests: &[Test], vars: &Env) -> bool
     ensures { result ≡ ruling.one_fails vars.now 0 tests.now }
 {
@@ -114,12 +113,12 @@ fn one_fails(tests: &[Test], vars: &Env) -> bool
     false
 }
 
-/// Whether a leaf matches an event of this name with these variables in no environment: it names another, or has a literal value that
-/// its variable hasn't. Takes no memory.
+/// Whether a leaf matches an event of this name with these variables in no environment: it names another event, or has a literal value
+/// that its variable doesn't have. Takes no memory.
 pub fn rules_out(leaf: &Leaf, name: &Name, vars: &Env) -> bool
     ensures { result ≡ ruling.rules_out leaf.now name.now vars.now }
 {
-    // of many leaves that name one event most are told apart by a value
+    // most leaves that name the same event differ in a value
     one_fails(leaf.values.as_slice(), vars) || !name.is(&leaf.event)
 }
 
@@ -133,7 +132,6 @@ fn side_of(job: &JobDef, start: bool) -> Option<&Condition>
     }
 }
 
-/// The leaf at a place of an expression, if it is one.
 pub(crate) fn leaf_in<'a>(condition: Option<&'a Condition>, at: usize) -> Option<&'a Leaf>
     ensures { option_copied result ≡ ruling.leaf_in (option_copied condition.entry) at }
 {
@@ -147,7 +145,6 @@ pub(crate) fn leaf_in<'a>(condition: Option<&'a Condition>, at: usize) -> Option
     }
 }
 
-/// The leaf at a place of a table, if it is one.
 pub(crate) fn leaf_at<'a>(jobs: &'a [JobFile], place: &Place) -> Option<&'a Leaf>
     ensures { option_copied result ≡ ruling.leaf_at jobs.now place.now }
 {
@@ -174,7 +171,6 @@ pub fn admits(jobs: &[JobFile], place: &Place, event: &Event) -> bool
     admits_leaf(leaf_at(jobs, place), event)
 }
 
-// Whether the leaf at a place of a file's `stop on` may match an event.
 fn admits_stop(file: &JobFile, place: &Place, event: &Event) -> bool
     ensures { result ≡ ruling.admits_by event.now (ruling.leaf_in file.now.stop_on place.now.node) }
 {

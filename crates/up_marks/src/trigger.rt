@@ -1,4 +1,4 @@
-//! What an expression in force remembers, which the job file may not have.
+//! What an expression in force remembers, if the job file has it.
 ghost use Rattle.std.specs.Prelude.{◌≡◌, ℕ, ◌+◌, ◌==◌, if◌then◌else◌, ◌++◌, ◌∷◌, [], IfOk, OnOk, OnErr, List, Option, Some, map};
 ghost use Rattle.up_expr.specs.Trees.{Tree};
 ghost use Rattle.up_expr.specs.Truth.{Sight};
@@ -43,7 +43,7 @@ pub struct Firing {
     pub kept: Items<EventId>,
 }
 
-// Offers an event to the leaves at these places, if the marks are of such an expression.
+// Offers an event to the leaves at these places, if the marks fit the expression.
 fn offer_fitting(
     marks: &mut Marks,
     alloc: Global,
@@ -83,7 +83,7 @@ fn offer_fitting(
     }
 }
 
-// The events by which marks are true, if they are of such an expression.
+// The events by which marks are true, if they fit the expression.
 fn taken_fitting(
     marks: &Marks,
     alloc: Global,
@@ -100,7 +100,7 @@ fn taken_fitting(
     }
 }
 
-// What marks give up, if they are of such an expression.
+// What marks give up, if they fit the expression.
 fn fire_fitting(
     marks: &mut Marks,
     alloc: Global,
@@ -121,7 +121,7 @@ fn fire_fitting(
 }
 
 impl Trigger {
-    /// What an expression remembers that has seen nothing. All room that its leaves ever need is taken here.
+    /// What an expression remembers that has seen nothing. Allocates all room that its leaves ever need.
     pub fn new(alloc: Global, condition: &Option<Condition>) -> Result<Self, AllocError>
         ensures { IfOk result (λ trigger. (event_of : EventIdValue → Option ℕ)
             → Remembers event_of trigger condition.now []) }
@@ -135,7 +135,6 @@ impl Trigger {
         }
     }
 
-    /// Whether the expression is true.
     pub fn holds(&self) -> bool
         ensures { (event_of : EventIdValue → Option ℕ) (condition : Option Tree) (sights : List Sight)
             → Remembers event_of self.now condition sights → result ≡ seen.holds condition sights }
@@ -159,8 +158,7 @@ impl Trigger {
         }
     }
 
-    /// Offers an event to the leaves at these places, which are those that name it. Where memory is refused
-    /// nothing changes.
+    /// Offers an event to the leaves at these places, which are those that name it. When out of memory, nothing changes.
     pub fn offer(
         &mut self,
         alloc: Global,
@@ -209,7 +207,7 @@ impl Trigger {
         }
     }
 
-    /// The expression fires: it forgets all events. Where memory is refused nothing changes.
+    /// The expression fires: it forgets all events. When out of memory, nothing changes.
     pub fn fire(
         &mut self,
         alloc: Global,

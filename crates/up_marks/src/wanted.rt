@@ -57,7 +57,6 @@ fn wanted_by(leaf: Option<&Leaf>) -> &str
     }
 }
 
-// The leaf at a place of a table, with the value that it wants.
 fn wanting(alloc: Global, jobs: &[JobFile], place: &Place) -> Result<Wanted, AllocError>
     ensures { IfOk result (λ leaf. leaf ≡ finding.wanting jobs.now place.now) }
 {
@@ -72,7 +71,7 @@ fn wanting(alloc: Global, jobs: &[JobFile], place: &Place) -> Result<Wanted, All
     Ok(Wanted { value, place })
 }
 
-/// The leaves at these places of a table.
+/// The leaves at these places of a table, each with the value that it wants.
 pub(crate) fn wanting_each(
     alloc: Global,
     jobs: &[JobFile],

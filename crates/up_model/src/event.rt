@@ -12,7 +12,6 @@ pub struct Event {
 }
 
 impl Event {
-    /// An equal value in memory of its own.
     pub fn copy(&self) -> Result<Self, AllocError>
         ensures { IfOk result (λ event. event ≡ self.now) }
     {

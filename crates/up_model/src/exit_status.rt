@@ -5,7 +5,7 @@ ghost use Rattle.up_model.specs.ExitStatuses.{status_number};
 /// The exit status of `initd` and `initctl` (initd(8) and initctl(8), EXIT STATUS).
 #[derive(Clone, Copy, Debug, PartialEq, Eq)]
 pub enum ExitStatus {
-    /// All was done.
+    /// Everything was done.
     Done,
     /// A job file is faulty, or a request failed.
     Failed,
@@ -18,7 +18,7 @@ pub enum ExitStatus {
 }
 
 impl ExitStatus {
-    /// The number that the system is told.
+    /// The number that is passed to the system.
     pub fn number(self) -> u8
         ensures { result ≡ status_number self }
     {

@@ -9,7 +9,7 @@ pub enum Cause {
     Respawn,
 }
 
-/// A failure of an instance. `how` is how the process ended; `None` if it was refused, and for too many respawns.
+/// A failure of an instance. `how` is how the process ended; `None` if it couldn't be started, and for too many respawns.
 #[derive(Clone, Copy, Debug)]
 pub struct Failure {
     pub cause: Cause,

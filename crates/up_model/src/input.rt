@@ -1,4 +1,4 @@
-//! What an engine is told, one input a step.
+//! The inputs of an engine, one for each step.
 ghost use Rattle.std.specs.Prelude.{◌≡◌, IfOk};
 
 use crate::event::Event;
@@ -9,12 +9,12 @@ use crate::who::Who;
 use std::alloc::{AllocError, Global};
 use up_conf::Process;
 
-/// One input: what a client, a child or the clock did, or a turn of the queue of events.
+/// One input: what a client, a child or the clock did, or a turn of the event queue.
 #[derive(Drop)]
 pub enum Input {
     /// An event from outside.
     Emit(Event),
-    /// A client's request, with the number under which it is answered.
+    /// A client's request, with the number of its answer.
     Request {
         id: u64,
         request: Request,
@@ -40,7 +40,7 @@ pub enum Input {
     Clock(u64),
     /// One event is handled or finished.
     Turn,
-    /// The configuration was read again for a client, with the number under which it is answered.
+    /// The configuration was read again for a client, with the number of its answer.
     Load {
         id: u64,
         loaded: Loaded,
@@ -48,7 +48,6 @@ pub enum Input {
 }
 
 impl Input {
-    /// An equal value in memory of its own.
     pub fn copy(&self, alloc: Global) -> Result<Self, AllocError>
         ensures { IfOk result (λ input. input ≡ self.now) }
     {

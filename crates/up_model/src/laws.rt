@@ -1,4 +1,4 @@
-//! Laws: what holds of the names of commands, and of every run, whatever the jobs are and whatever is given.
+//! Laws: what holds of the names of commands, and of every run, whatever the jobs and the inputs are.
 ghost use Rattle.std.specs.Prelude.{ℕ, ◌≡◌, ◌≤◌, true, length, List, [], Some};
 ghost use Rattle.up_model.specs.Answers.{after, after_all};
 ghost use Rattle.up_model.specs.Blocks.{ActsUnblocked, HasOneMain};
@@ -26,18 +26,18 @@ pub fn rest()
         → due (in_force config (after config c given)) (after config c given) ≡ [] }
 {}
 
-/// The queue stands by age: each of its events was queued before those after it, and before now.
+/// The queue is in order of age: each of its events was queued before those after it, and before now.
 pub fn ages()
     ensures { (c : Chronicle) → AreByAge (queue c) (length c) }
 {}
 
-/// Each event is taken up by one turn at most.
+/// At most one turn takes an event up.
 pub fn handled_once()
     ensures { (config : Configuration) (inputs : List Input) (event : ℕ)
         → handled_times event (after_all config [] inputs) ≤ 1 }
 {}
 
-/// Each event finishes once at most, and only after a turn had taken it up.
+/// Each event finishes at most once, and only after a turn had taken it up.
 pub fn finished_once()
     ensures once { (config : Configuration) (inputs : List Input) (event : ℕ)
         → finished_times event (after_all config [] inputs) ≤ 1 }
@@ -46,8 +46,8 @@ pub fn finished_once()
         (after_all config [] inputs) }
 {}
 
-/// At each moment of a run an event that is taken up was neither taken up nor finished, and one that finishes had been taken up once and
-/// is not held.
+/// At each moment of a run an event that is taken up was neither taken up nor finished before, and one that finishes had been taken up
+/// once and is not held.
 pub fn orderly()
     ensures { (config : Configuration) (inputs : List Input) → IsOrderly config (after_all config [] inputs) }
 {}
@@ -58,13 +58,13 @@ pub fn blocks()
     ensures { (config : Configuration) (inputs : List Input) → ActsUnblocked (after_all config [] inputs) }
 {}
 
-/// An instance doesn't order its main process while that lives.
+/// An instance doesn't order its main process while that process lives.
 pub fn one_main()
     ensures { (config : Configuration) (inputs : List Input) → HasOneMain (after_all config [] inputs) }
 {}
 
-/// The processes that the instances may still order before they wait for an event become fewer by at least those that a step orders, whatever
-/// it is given but a turn and a request.
+/// The processes that the instances may still order before they wait for an event become fewer by at least those that a step orders, for
+/// any input except a turn and a request.
 pub fn left_falls()
     ensures { (config : Configuration) (c : Chronicle) (given : Input) → is_calm given ≡ true
         → Spends config c given }

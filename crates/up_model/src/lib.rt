@@ -1,6 +1,6 @@
-//! What should have happened: the values that everybody speaks, and the definitions of a run over its history.
+//! What should have happened: the values that all crates share, and the definitions of a run over its history.
 //!
-//! `specs/` says what a run means; the crates above cite it and add nothing.
+//! `specs/` defines what a run means; the crates above cite it and add nothing.
 #![tactic(auto)]
 
 pub mod event;

@@ -1,22 +1,21 @@
-//! What comes of reading the configuration again.
+//! The outcome of reading the configuration again.
 ghost use Rattle.std.specs.Prelude.{◌≡◌, IfOk};
 
 use std::alloc::{AllocError, Global};
 use up_image::Table;
 
-/// What comes of reading the configuration again (initctl(8), `reload-configuration`).
+/// The outcome of reading the configuration again (initctl(8), `reload-configuration`).
 #[derive(Drop)]
 pub enum Loaded {
     /// The jobs that were read.
     Files(Table),
-    /// Why they are refused, by its number.
+    /// The number of the reason why the jobs are refused.
     Refused(u8),
-    /// They couldn't be read.
+    /// The jobs couldn't be read.
     Unread,
 }
 
 impl Loaded {
-    /// An equal value in memory of its own.
     pub fn copy(&self, alloc: Global) -> Result<Self, AllocError>
         ensures { IfOk result (λ loaded. loaded ≡ self.now) }
     {

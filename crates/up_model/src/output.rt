@@ -1,4 +1,4 @@
-//! What an engine asks for.
+//! The outputs of an engine.
 ghost use Rattle.std.specs.Prelude.{◌≡◌, IfOk};
 
 use crate::event::Event;
@@ -23,7 +23,6 @@ pub struct Order {
 }
 
 impl Order {
-    /// An equal value in memory of its own.
     pub fn copy(&self, alloc: Global) -> Result<Self, AllocError>
         ensures { IfOk result (λ order. order ≡ self.now) }
     {
@@ -56,7 +55,6 @@ pub enum Output {
 }
 
 impl Output {
-    /// An equal value in memory of its own.
     pub fn copy(&self, alloc: Global) -> Result<Self, AllocError>
         ensures { IfOk result (λ output. output ≡ self.now) }
     {

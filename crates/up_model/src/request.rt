@@ -1,4 +1,4 @@
-//! What a client asks, and what it is answered.
+//! The requests of clients, and their answers.
 ghost use Rattle.std.specs.Prelude.{◌≡◌, IfOk, Some, None, if◌then◌else◌};
 ghost use Rattle.up_model.specs.Requests.{command_name, command_named, may_wait, is_alone, is_request};
 
@@ -21,7 +21,6 @@ pub enum Command {
 }
 
 impl Command {
-    /// The command as a client writes it.
     pub fn name(self) -> &'static str
         ensures { result.now ≡ command_name self }
     {
@@ -38,7 +37,6 @@ impl Command {
         }
     }
 
-    /// The command of this name, if there is one.
     pub fn from_name(name: &str) -> Option<Self>
         ensures { result ≡ command_named name.now }
     {
@@ -70,7 +68,7 @@ impl Command {
         }
     }
 
-    /// Whether the command stands alone, without a name and variables.
+    /// Whether the command takes no name and no variables.
     pub fn is_alone(self) -> bool
         ensures { result ≡ is_alone self }
     {
@@ -122,7 +120,7 @@ fn is_request(command: Command, wait: bool, name: &Text, vars: &Env) -> bool
 }
 
 impl Request {
-    /// The request of these parts, if they are one.
+    /// `None` if the parts aren't a valid request.
     pub fn new(command: Command, wait: bool, name: Text, vars: Env) -> Option<Self>
         ensures { result
             ≡ (if is_request command wait name vars
@@ -140,7 +138,6 @@ impl Request {
         }
     }
 
-    /// An equal value in memory of its own.
     pub fn copy(&self) -> Result<Self, AllocError>
         ensures { IfOk result (λ request. request ≡ self.now) }
     {
@@ -163,7 +160,6 @@ pub struct Answer {
 }
 
 impl Answer {
-    /// An equal value in memory of its own.
     pub fn copy(&self) -> Result<Self, AllocError>
         ensures { IfOk result (λ answer. answer ≡ self.now) }
     {

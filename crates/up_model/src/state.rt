@@ -18,7 +18,7 @@ impl Goal {
         matches!(self, Goal::Start)
     }
 
-    /// The goal as a client reads it.
+    /// The goal in a status text.
     pub fn name(self) -> &'static str
         ensures { result.now ≡ goal_name self }
     {
@@ -57,7 +57,7 @@ impl State {
         matches!(self, State::Running)
     }
 
-    /// The state as a client reads it.
+    /// The state in a status text.
     pub fn name(self) -> &'static str
         ensures { result.now ≡ state_name self }
     {

@@ -19,7 +19,7 @@ fn push_instance(text: &mut String, instance: &Text) -> Result<(), AllocError>
     text.push_str(")")
 }
 
-/// Adds an instance as clients read of it: its job's name, and its own in parentheses if it has one.
+/// Appends the name of an instance for clients: its job's name, and its own in parentheses if it has one.
 #[tactic(auto, unfolding(crate::specs::Status::who_name))]
 pub fn push_who(text: &mut String, who: &Who) -> Result<(), AllocError>
     ensures { OnOk result (string_bytes text.new ≡ string_bytes text.old ++ who_name who.now) }
@@ -91,8 +91,8 @@ fn push_processes(
     }
 }
 
-/// What a client reads of an instance: `NAME (INSTANCE) GOAL/STATE` and its living processes, by `main`, the number of a living main
-/// process, and `own`, that of the state's own living process.
+/// The text for clients: `NAME (INSTANCE) GOAL/STATE` and the living processes. `main` is the number of a living main process, and `own`
+/// that of the state's own living process.
 #[tactic(auto, unfolding(crate::specs::Status::status_text))]
 pub fn status_text(
     alloc: Global,

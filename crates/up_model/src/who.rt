@@ -12,7 +12,6 @@ pub struct Who {
 }
 
 impl Who {
-    /// An equal value in memory of its own.
     pub fn copy(&self) -> Result<Self, AllocError>
         ensures { IfOk result (λ who. who ≡ self.now) }
     {
