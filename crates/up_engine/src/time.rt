@@ -86,7 +86,7 @@ fn all_overdue<B: Book>(
     Ok(keys)
 }
 
-// Main of each of these is sent KILL.
+// Sends KILL to the main process of each of these.
 fn kill_each<B: Book>(book: &mut B, keys: &[InstanceKey]) -> Result<(), AllocError>
     ensures after { OnOk result ((config : Configuration) (c : Chronicle) (places : List ℕ)
         → B.stands book.old Stepping config c
