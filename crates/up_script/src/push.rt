@@ -1,4 +1,4 @@
-//! Texts that grow.
+//! Appends to texts.
 ghost use Rattle.std.specs.Prelude.{◌≡◌, ◌++◌, OnOk};
 ghost use Rattle.std.specs.Fmt.{decimal};
 ghost use Rattle.up_model.specs.Signals.{signal_text};
@@ -6,7 +6,6 @@ ghost use Rattle.up_model.specs.Signals.{signal_text};
 use std::alloc::AllocError;
 use up_conf::signal_name;
 
-/// Appends a text.
 pub(crate) fn push(text: &mut Vec<u8>, more: &str) -> Result<(), AllocError>
     ensures { OnOk result (text.new.items ≡ text.old.items ++ more.now) }
 {
