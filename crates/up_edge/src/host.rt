@@ -1,4 +1,4 @@
-//! What a host promises of each call.
+//! The contract of a host's calls.
 ghost use Rattle.std.specs.Prelude.{◌≡◌, ℕ};
 ghost use Rattle.up_edge.specs.Calls.{Calls, Reports, emptied};
 ghost use Rattle.up_edge.specs.Living.{LivesAfterSpawn, LivesAfterPoll};
@@ -19,7 +19,7 @@ pub trait Host {
     /// How many processes were spawned whose end was not reported.
     ghost living: { Self → ℕ };
 
-    /// Starts a process, whose number is returned.
+    /// Starts a process, and returns its process number.
     fn spawn(&mut self, order: &Order) -> Result<u32, HostFault>
         ensures reports { Reports (λ pid. Spawned order.now pid) (calls self.old) result (calls self.new) }
         ensures lives { LivesAfterSpawn (living self.old) result (living self.new) };

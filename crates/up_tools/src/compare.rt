@@ -193,7 +193,7 @@ fn compare_other<R: Files + Eprint + AllocGlobal + Clone + Drop>(
     compare_with(rt.alloc(), new, old)
 }
 
-/// The changes by a reload from a folder or an image to a folder on the disk: a line for each job that is added or removed, or that differs.
+/// The changes by a reload from a folder or an image to a folder on the disk: a line per job that is added or removed, or that differs.
 /// If one of them is faulty or can't be used, the output is that of its check, below a line that names it if it is the other one.
 pub fn compare_dir<R: Files + Eprint + AllocGlobal + Clone + Drop>(
     rt: &R,
