@@ -36,7 +36,7 @@ fn own_env<B: Book>(setup: &Setup, book: &B, key: InstanceKey) -> Result<Env, Al
     }
 }
 
-/// The environment for starting this instance by these events. `at_hand` is the job's environment with what the events add.
+/// The environment for starting this instance by these events. `at_hand` is the job's environment with the events' variables.
 pub(crate) fn start_env<B: Book>(
     alloc: Global,
     setup: &Setup,

@@ -1,4 +1,4 @@
-//! What an engine is made with.
+//! The setup of an engine: its jobs and their environments.
 ghost use Rattle.std.specs.Prelude.{◌≡◌, ◌++◌, is_some, not, true, map, None, Some, slice_get, unwrap_or, IfOk, OnOk, IfSome, IfNone};
 ghost use Rattle.std.specs.Option.{option_copied};
 ghost use Rattle.std.specs.Str.{bytes_eq};

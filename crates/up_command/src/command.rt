@@ -263,7 +263,7 @@ fn wanted(word: &str) -> &'static str {
     }
 }
 
-// Why the words of a command are refused: one is missing, or is superfluous beside a bundle.
+// The reason to refuse the words of a command: one is missing, or is superfluous with a bundle.
 fn missing_word(word: &str, given: &ArgMatches) -> &'static str {
     match (word, is_set(given, "bundle")) {
         ("replay", false) =>

@@ -71,7 +71,6 @@ fn one_waits(clients: &[Client], number: u32) -> bool
 }
 
 impl Clients {
-    /// No client is connected.
     pub(crate) fn new(alloc: Global) -> Self
         ensures { result.list.items ≡ [] }
     {
@@ -186,7 +185,6 @@ impl Clients {
         None
     }
 
-    /// Whether a client with this number waits for something.
     pub(crate) fn waits(&self, number: u32) -> bool
         ensures { result ≡ one_waits number (peers_of self.now.list.items) }
     {

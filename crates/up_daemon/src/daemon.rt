@@ -104,7 +104,7 @@ impl Daemon {
     }
 
     /// One round: feeds the events with which the daemon begins, if it is the first; reads the clock, looks for ends, lets clients in, reads
-    /// each once, lets their requests enter, turns the queue of events, and writes once to each client that has waiting bytes. The orders of
+    /// each once, lets their requests enter, turns the queue of events, and writes once to each client with waiting bytes. The orders of
     /// each step are carried out at once. For a request to reload the configuration the source is called once, and its result is loaded.
     /// It never waits.
     /// Refused with `Down` if the engine is down or an earlier round was refused, and with `Memory`; what it did before that remains done.

@@ -20,7 +20,6 @@ pub(crate) struct Log {
 }
 
 impl Log {
-    /// An empty log.
     pub(crate) fn new(alloc: Global) -> Self
         ensures fed { result.fed.items ≡ [] }
         ensures gave { result.gave.items ≡ [] }
@@ -40,7 +39,6 @@ impl Log {
         Ok(())
     }
 
-    /// The round of this log.
     pub(crate) fn into_round(self) -> Round
         ensures fed { result.fed ≡ self.fed.items }
         ensures gave { result.gave ≡ self.gave.items }

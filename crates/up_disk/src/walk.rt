@@ -73,7 +73,7 @@ struct Level {
     depth: u32,
 }
 
-// What was found so far.
+// The files and folders found so far.
 #[derive(Drop)]
 struct Found {
     folder: Folder,

@@ -41,7 +41,6 @@ impl fmt::Display for Reason {
     }
 }
 
-/// Reports why the system refused something with this path.
 pub fn say_error<R: Eprint>(rt: &R, path: &str, error: &io::Error) {
     let reason = Reason(*error);
     let _ = eprintln!(rt; "initd: {path}: {reason}");

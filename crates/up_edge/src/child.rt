@@ -9,7 +9,7 @@ use std::os::unix::process::ExitStatusExt;
 use std::process::{Child, ExitStatus, OpenProcess};
 use up_model::{How, Process, Who};
 
-/// The number of children that a look covers, if there are so many.
+/// The minimum number of children that a look covers, if there are that many.
 const LEAST_LOOKS: usize = 16;
 
 /// The number of looks that cover all children, if there are more.
@@ -102,7 +102,6 @@ fn is_same(one: &Who, other: &Who) -> bool
     one.job.as_str() == other.job.as_str() && one.instance.is(other.instance.as_str())
 }
 
-/// The place of the child with this name and process number.
 pub(crate) fn place_of<P: OpenProcess>(
     children: &[Running<P>],
     who: &Who,

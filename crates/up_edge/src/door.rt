@@ -24,7 +24,7 @@ pub trait Door {
         ensures reports { Reports Accepted (calls self.old) result (calls self.new) }
         ensures connects { ConnectsOnAccept (connected self.old) result (connected self.new) };
 
-    /// The number of the client's bytes that were put at the start of the buffer; `None` if none has come yet, and 0 if it sends no more, or
+    /// How many of the client's bytes were put at the start of the buffer; `None` if none has come yet, and 0 if it sends no more, or
     /// the door reads it no more.
     fn read(&mut self, client: u32, buffer: &mut [u8]) -> Result<Option<usize>, DoorFault>
         ensures reports { Reports (λ found. Read client (option_map (λ count. take count buffer.new) found))
@@ -44,7 +44,6 @@ pub trait Door {
         ensures reports { ReportsClose client (calls self.old) (calls self.new) }
         ensures connects { Disconnects client (connected self.old) (connected self.new) };
 
-    /// How many calls have failed.
     fn faults(&self) -> u64
         ensures { result ≡ (calls self.now).faults };
 
@@ -52,7 +51,6 @@ pub trait Door {
     fn happened(&self) -> &[Passed]
         ensures { result.now ≡ (calls self.now).entries };
 
-    /// Empties the record.
     fn clear_record(&mut self)
         ensures reports { calls self.new ≡ emptied (calls self.old) }
         ensures connects { SameClients (connected self.old) (connected self.new) };

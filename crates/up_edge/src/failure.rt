@@ -20,7 +20,6 @@ pub struct Failures {
 }
 
 impl Failure {
-    /// Whether the call with this number fails.
     pub fn is_failing(self, call: u64) -> bool
         ensures { result ≡ is_failing self call }
     {

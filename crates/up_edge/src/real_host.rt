@@ -38,7 +38,7 @@ pub struct RealHost<R: Processes> {
     children: Vec<Running<R::Started>>,
     // the shells that send signals; their ends are not reported
     helpers: Vec<Child<R::Started>>,
-    // where the next look at the children begins
+    // the place where the next look at the children begins
     next: usize,
     journal: Journal<Happened>,
     refusals: Vec<Refusal>,

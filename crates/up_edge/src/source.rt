@@ -20,7 +20,6 @@ pub trait Source {
     fn load(&mut self) -> Result<Loaded, SourceFault>
         ensures { Reports (λ loaded. loaded) (calls self.old) result (calls self.new) };
 
-    /// How many calls have failed.
     fn faults(&self) -> u64
         ensures { result ≡ (calls self.now).faults };
 
@@ -28,7 +27,6 @@ pub trait Source {
     fn happened(&self) -> &[Loaded]
         ensures { result.now ≡ (calls self.now).entries };
 
-    /// Empties the record.
     fn clear_record(&mut self)
         ensures { calls self.new ≡ emptied (calls self.old) };
 }

@@ -17,8 +17,8 @@ pub struct Visitor {
 }
 
 impl Visitor {
-    /// A client that sends these pieces, one or more reads each: `None` means nothing yet, and an empty one the end. After the last it sends
-    /// nothing. Its writes take at most these numbers of bytes; after the last one they take all.
+    /// A client that sends these pieces, one or more reads each: `None` means nothing yet, and an empty one the end. After the last it
+    /// sends nothing. Its writes take at most these numbers of bytes; after the last one they take all.
     pub fn new(says: Vec<Option<Items<u8>>>, takes: Vec<usize>) -> Self
         ensures says { result.says ≡ says }
         ensures takes { result.takes ≡ takes }

@@ -239,7 +239,7 @@ impl Engine {
         }
     }
 
-    /// The answer to one input, as in `run`; none if memory ran out, in this step or before.
+    /// The answer to one input, as in `run`; none if out of memory, in this step or before.
     pub fn answer(&mut self, given: Input) -> Option<Step>
         ensures meaning { (config : Configuration) (c : Chronicle) → Stands self.old config c
             → AnswerMeans result self.new config c given }

@@ -17,7 +17,7 @@ use up_conf::Exit;
 use up_job::{InstanceKey, judge_end};
 use up_model::{End, Failure, How, JobDef, Process, Verdict, Who};
 
-// The goal of an instance becomes stop by itself, if it is start.
+// The goal of an instance becomes stop of its own accord, if it is start.
 fn end_itself<B: Book>(book: &mut B, key: InstanceKey) -> Result<(), AllocError>
     ensures instances { OnOk result ((config : Configuration) (c : Chronicle) (i : ℕ)
         → B.stands book.old Stepping config c

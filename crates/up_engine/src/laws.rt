@@ -1,4 +1,4 @@
-//! Laws: what holds of every run of a compiled folder.
+//! Laws: properties of every run of a compiled folder.
 ghost use Rattle.std.specs.Prelude.{◌≡◌, ℕ, [], false, List, None, Ok, replicate};
 ghost use Rattle.up_conf.specs.declared.folder.File.{File};
 ghost use Rattle.up_conf.specs.declared.job.JobDef.{JobDef};
@@ -31,7 +31,7 @@ pub fn one_main()
         → Compiles files table report → HasOneMain (after_all (started_with base table) [] inputs) }
 {}
 
-/// The same of every table, whether it was compiled or read from an image.
+/// The same for every table, whether it was compiled or read from an image.
 pub fn one_main_of_tables()
     ensures { (jobs : List JobDef) (base : Bindings) (inputs : List Input)
         → IsTable jobs → HasOneMain (after_all (started_with base jobs) [] inputs) }
@@ -61,7 +61,7 @@ pub fn isolation()
         → deeds job (after_all first [] inputs) ≡ deeds job (after_all second [] given) }
 {}
 
-/// The same of the steps of two engines, neither of which ran out of memory: what the job does in each step is among the outputs
+/// The same for the steps of two engines, neither of which ran out of memory: what the job does in each step is among the outputs
 /// of that step, in their order, and all that it does is the same in both runs. So are the starts and signals among the outputs
 /// that name the job.
 pub fn isolated_runs()

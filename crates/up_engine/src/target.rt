@@ -1,4 +1,4 @@
-//! Whom a request names.
+//! The job and the instance that a request names.
 ghost use Rattle.std.specs.Prelude.{◌≡◌, ◌&&◌, length, not, Some, IfOk};
 ghost use Rattle.up_book.specs.Keys.{Mode, job_at};
 ghost use Rattle.up_conf.specs.declared.job.JobDef.{JobDef as JobValue};
@@ -18,7 +18,7 @@ use up_image::JobFile;
 use up_model::{JobDef, Who};
 use up_text::{Env, Expanded, Text, TextFault, expand};
 
-/// Whom a request names.
+/// The job and the instance that a request names.
 #[derive(Drop)]
 pub(crate) enum Target<'a> {
     /// Nobody, with the text that reports it.

@@ -1,4 +1,4 @@
-//! What the timer does.
+//! The effect of the timer.
 ghost use Rattle.std.specs.Prelude.{◌≡◌, ℕ, false, List, ◌∷◌, ◌++◌, [], map, Some, IsOk, IfOk, OnOk};
 ghost use Rattle.up_book.specs.Keys.{name_at, Mode, Stepping, instance_place};
 ghost use Rattle.up_conf.specs.declared.job.JobDef.{JobDef as JobValue};

@@ -20,7 +20,6 @@ pub(crate) struct HostFaults {
 }
 
 impl HostFaults {
-    /// Whether some call failed.
     pub(crate) fn are_some(&self) -> bool
         ensures { result ≡ are_some self.now }
     {

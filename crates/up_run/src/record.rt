@@ -107,7 +107,6 @@ impl<'a, W: Read + Write + OpenFile + Drop> Record<'a, W> {
         self.file.set_len(self.written).is_ok()
     }
 
-    /// Writes the waiting lines.
     pub(crate) fn write_waiting(&mut self) -> Result<(), Ending> {
         self.file.write_all(self.waiting.as_slice())?;
         self.written = self.written.saturating_add(self.waiting.len() as u64);

@@ -44,7 +44,6 @@ pub(crate) struct Reporter<'a, W> {
     record: Option<Record<'a, W>>,
 }
 
-// Appends the lines of a round's outputs.
 fn push_gave(text: &mut Vec<u8>, gave: &[Items<Output>]) -> Result<(), AllocError>
     ensures { OnOk result (text.new.items ≡ text.old.items ++ flat_map (flat_map output_lines) gave.now) }
 {
@@ -54,7 +53,6 @@ fn push_gave(text: &mut Vec<u8>, gave: &[Items<Output>]) -> Result<(), AllocErro
     Ok(())
 }
 
-// The lines of a round's outputs.
 fn gave_lines(alloc: Global, gave: &[Items<Output>]) -> Result<Vec<u8>, AllocError>
     ensures { IfOk result (λ text. text.items ≡ flat_map (flat_map output_lines) gave.now) }
 {
@@ -203,7 +201,7 @@ impl<'a, W: Read + Write + OpenFile + Drop> Reporter<'a, W> {
         }
     }
 
-    /// Ends the reports of a run in which this many calls of the host, of the door and of the source failed: reports that, writes the waiting
+    /// Ends the reports of a run in which this many calls of the host, the door and the source failed: reports that, writes the waiting
     /// lines of the record, and reports unread lines as lost.
     pub(crate) fn finish<R: Print + Eprint>(
         &mut self,

@@ -9,7 +9,7 @@ use std::rt::Files;
 use up_disk::why::{say, say_error};
 use up_edge::SocketFault;
 
-// The description of what is at a path where nothing may be yet.
+// The obstacle at a path where nothing may exist yet.
 fn obstacle<R: Files + Net>(rt: &R, path: &str) -> Option<&'static str> {
     let Ok(found) = symlink_metadata(rt, path) else {
         return None;
@@ -26,7 +26,7 @@ fn obstacle<R: Files + Net>(rt: &R, path: &str) -> Option<&'static str> {
     }
 }
 
-// Reports what is in the way of a socket: at its path, or else at that of the folder in which it is made.
+// Reports the obstacle to a socket: at its path, or else at that of the folder in which it is made.
 fn say_obstacle<R: Files + Net + Eprint>(rt: &R, path: &str) {
     match obstacle(rt, path) {
         Some(why) => say(rt, path, why),

@@ -12,7 +12,6 @@ pub(crate) fn push(text: &mut Vec<u8>, more: &str) -> Result<(), AllocError>
     text.extend_from_slice(more.as_bytes())
 }
 
-/// Appends a number in decimal.
 pub(crate) fn push_decimal(text: &mut Vec<u8>, number: u64) -> Result<(), AllocError>
     ensures { OnOk result (text.new.items ≡ text.old.items ++ decimal number) }
 {

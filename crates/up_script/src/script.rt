@@ -55,7 +55,7 @@ fn text_front(script: &[u8]) -> (&[u8], &[u8], u32)
     (front, rest, count)
 }
 
-/// What comes next in a step.
+/// The next item in a step.
 #[derive(Drop)]
 enum Next {
     Word(Text),

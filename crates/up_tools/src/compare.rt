@@ -1,4 +1,4 @@
-//! What a reload from a folder or an image to a folder changes.
+//! The changes by a reload from a folder or an image to a folder.
 ghost use Rattle.std.specs.Prelude.{◌≡◌, IfOk};
 ghost use Rattle.up_disk.specs.Walk.{IsWalked};
 ghost use Rattle.up_print.specs.Folders.{image_refusal_line, prints, unusable};

@@ -40,7 +40,6 @@ fn show(alloc: Global, view: View, chart: Chart) -> Result<Vec<u8>, AllocError>
     }
 }
 
-// The text of a run of these jobs.
 fn show_run(
     alloc: Global,
     view: View,

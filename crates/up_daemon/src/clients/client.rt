@@ -30,7 +30,6 @@ pub(crate) struct Client {
 }
 
 impl Client {
-    /// A client that sent nothing.
     pub(crate) fn new(alloc: Global, number: u32) -> Self
         ensures number { result.number ≡ number }
         ensures feed { result.feed ≡ record { rest = []; fault = None } }
