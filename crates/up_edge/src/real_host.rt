@@ -77,7 +77,7 @@ fn kill_by_shell<R: Processes>(
     }
 }
 
-// Milliseconds since the start; none if the clock can't be read.
+// Milliseconds since the start.
 fn reading(clock: &impl Clock, start: &Instant) -> Option<u64> {
     match start.elapsed(clock) {
         Ok(time) => u64::try_from(time.as_millis()).ok(),

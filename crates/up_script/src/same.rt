@@ -80,7 +80,7 @@ fn same_how(how: How, other: How) -> bool
     how == other
 }
 
-// Loaded jobs don't occur in what is read, so that they are never the same.
+// Loaded jobs don't occur in what is read.
 fn same_loaded(loaded: &Loaded, other: &Loaded) -> bool
     requires { has_jobs loaded.now ≡ false }
     ensures same { result ≡ true → loaded.now ≡ other.now }
