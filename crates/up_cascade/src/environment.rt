@@ -1,4 +1,4 @@
-//! The environment of a start: that of the file by which its instance was made, and what the start adds (init(5), "Job environment").
+//! The environment of a start: that of the job file its instance was made from, and what the start adds (init(5), "Job environment").
 ghost use Rattle.std.specs.Prelude.{◌≡◌, ℕ, List, map, Some, IfOk};
 ghost use Rattle.up_book.specs.Keys.{Mode, instance_place, job_at};
 ghost use Rattle.up_conf.specs.declared.job.JobDef.{JobDef as JobValue};
@@ -18,7 +18,7 @@ use up_job::InstanceKey;
 use up_model::EventId;
 use up_text::Env;
 
-// The environment of the file by which an instance was made.
+// The environment of the job file that an instance was made from.
 fn own_env<B: Book>(setup: &Setup, book: &B, key: InstanceKey) -> Result<Env, AllocError>
     ensures { IfOk result (λ own. (mode : Mode) (c : Chronicle) (i : ℕ)
         → B.stands book.now mode setup.now c → instance_place setup.now c key ≡ Some i
@@ -36,7 +36,7 @@ fn own_env<B: Book>(setup: &Setup, book: &B, key: InstanceKey) -> Result<Env, Al
     }
 }
 
-/// The environment of a start by these events of the instance of this name. The job's, with what the events add, is at hand.
+/// The environment for starting this instance by these events. `at_hand` is the job's environment with the events' variables.
 pub(crate) fn start_env<B: Book>(
     alloc: Global,
     setup: &Setup,
@@ -64,7 +64,7 @@ pub(crate) fn start_env<B: Book>(
     }
 }
 
-/// The environment that a request's start would give the instance of this name. The job's, with the request's variables, is at hand.
+/// The environment with which a request would start this instance. `at_hand` is the job's, with the request's variables.
 pub fn request_start_env<B: Book>(
     setup: &Setup,
     book: &B,

@@ -19,7 +19,7 @@ use up_job::InstanceKey;
 use up_model::{Cause, Event, EventId, Failure, How, JobDef, JobEvent, process_name};
 use up_text::{Env, Name, Text};
 
-// The keys and values here are ones that an environment takes, so that it refuses them only if it is out of memory.
+// The keys and values here are valid for an environment, so an error means out of memory.
 fn put(vars: &mut Env, key: &str, value: &str) -> Result<(), AllocError>
     ensures { OnOk result (vars.new ≡ set_in key.now value.now vars.old) }
 {
@@ -63,7 +63,7 @@ fn put_signal(vars: &mut Env, alloc: Global, signal: u8) -> Result<(), AllocErro
     }
 }
 
-// How the process ended that failed.
+// How the failed process ended.
 fn put_ending(vars: &mut Env, alloc: Global, how: Option<How>) -> Result<(), AllocError>
     ensures { OnOk result (vars.new ≡ set_all vars.old (model.ending how)) }
 {
@@ -74,7 +74,7 @@ fn put_ending(vars: &mut Env, alloc: Global, how: Option<How>) -> Result<(), All
     }
 }
 
-// How a life went.
+// RESULT, and for a failure PROCESS and how that ended.
 fn put_result(vars: &mut Env, alloc: Global, failure: Option<Failure>) -> Result<(), AllocError>
     ensures { OnOk result (vars.new ≡ set_all vars.old (model.result failure)) }
 {
@@ -102,7 +102,7 @@ fn about_with_result(
     Ok(vars)
 }
 
-/// An event of this name, which is one.
+/// An event of this name, which is a valid name.
 pub fn event_of(alloc: Global, name: &str, vars: Env) -> Result<Event, AllocError>
     ensures { IfOk result (λ event. event ≡ record { name = name.now; vars = vars }) }
 {
@@ -112,7 +112,7 @@ pub fn event_of(alloc: Global, name: &str, vars: Env) -> Result<Event, AllocErro
     }
 }
 
-// What an event of an instance's life says by itself.
+// An event of an instance's life, without the keys that its job exports.
 fn life_event(
     alloc: Global,
     kind: JobEvent,
@@ -173,7 +173,7 @@ fn export_all(vars: &mut Env, environment: Option<&Env>, keys: &[Text]) -> Resul
     Ok(())
 }
 
-// An event of the life of the instance of this name, with the keys that its job exports of the environment in force.
+// An event of the instance's life, with the keys that its job exports from the environment in force.
 fn event_of_life<B: Book>(
     alloc: Global,
     book: &B,
@@ -192,7 +192,7 @@ fn event_of_life<B: Book>(
     Ok(Event { name, vars })
 }
 
-/// An event of an instance's life (starting(7), started(7), stopping(7), stopped(7)), with the keys that its job exports of the
+/// An event of an instance's life (starting(7), started(7), stopping(7), stopped(7)), with the keys that its job exports from the
 /// environment in force.
 pub(crate) fn job_event<B: Book>(
     alloc: Global,
@@ -215,7 +215,7 @@ fn tells_failure(event: &Event) -> bool
     event.name.as_str().as_bytes().ends_with(b"/failed")
 }
 
-// The event that tells that another was spoilt. Its name is one, since the other's is.
+// The event that reports that another was spoilt. Its name is valid, since the other's is.
 fn failure_event(alloc: Global, event: &Event) -> Result<Event, AllocError>
     ensures { IfOk result (λ told. told ≡ record {
       name = event.now.name
@@ -229,7 +229,7 @@ fn failure_event(alloc: Global, event: &Event) -> Result<Event, AllocError>
     event_of(alloc, name.as_str(), vars)
 }
 
-/// The event that tells that another was spoilt, unless that tells of a failure itself.
+/// The event that reports that another was spoilt, unless that one reports a failure itself.
 pub fn failure_of_event(alloc: Global, event: Option<&Event>) -> Result<Option<Event>, AllocError>
     ensures { IfOk result (λ told. told ≡ model.failure_of_event (option_copied event.entry)) }
 {
@@ -253,7 +253,6 @@ fn push_event<'a>(events: &mut Vec<&'a Event>, found: Option<&'a Event>) -> Resu
     Ok(())
 }
 
-// The events of these keys.
 fn events_of<'a, B: Book>(
     alloc: Global,
     book: &'a B,
@@ -307,7 +306,7 @@ fn names_of(alloc: Global, events: &[&Event]) -> Result<String, AllocError>
     Ok(text)
 }
 
-// Adds what a start by these events tells.
+// Adds the variables of these events, and UPSTART_EVENTS.
 fn add_start(env: &mut Env, events: &[&Event], names: &str) -> Result<(), AllocError>
     ensures { OnOk result (names.now ≡ model.names_of (map (λ event. event.now) events.now)
         → env.new ≡ model.events_env env.old (map (λ event. event.now) events.now)) }
@@ -325,7 +324,7 @@ fn env_by(alloc: Global, base: &Env, events: &[&Event]) -> Result<Env, AllocErro
     Ok(env)
 }
 
-/// The environment of a start by the events of these keys, on top of that of the job.
+/// The environment of a start by these events, on top of the job's.
 pub(crate) fn events_env<B: Book>(
     alloc: Global,
     base: &Env,
@@ -341,7 +340,7 @@ pub(crate) fn events_env<B: Book>(
     env_by(alloc, base, events.as_slice())
 }
 
-/// Adds the instance that is started.
+/// Adds UPSTART_JOB and UPSTART_INSTANCE.
 pub(crate) fn add_instance(env: &mut Env, job: &Name, name: &str) -> Result<(), AllocError>
     ensures { OnOk result (env.new ≡ model.with_instance
         (record { job = job.now; instance = name.now }) env.old) }
@@ -360,7 +359,7 @@ fn stop_env_by(alloc: Global, events: &[&Event]) -> Result<Env, AllocError>
     Ok(env)
 }
 
-/// What a stop by the events of these keys adds for pre-stop and post-stop.
+/// The variables that a stop by these events adds for pre-stop and post-stop.
 pub(crate) fn stop_env<B: Book>(
     alloc: Global,
     book: &B,

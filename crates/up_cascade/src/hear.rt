@@ -50,7 +50,7 @@ fn hear_by<B: Book>(
     Ok(stays)
 }
 
-// An instance hears of the event by its `stop on`; returns whether it is still there.
+// Offers the event to an instance's `stop on`; returns whether the instance is still there.
 fn hear_stop<B: Book>(
     alloc: Global,
     setup: &Setup,
@@ -77,7 +77,7 @@ fn hear_stop<B: Book>(
     }
 }
 
-// Each instance of the job of an index hears of the event by its `stop on`.
+// Offers the event to the `stop on` of each instance of a job.
 fn hear_stops<B: Book>(
     alloc: Global,
     setup: &Setup,
@@ -103,7 +103,7 @@ fn hear_stops<B: Book>(
     Ok(())
 }
 
-// A job hears of the event by its `start on`. Of its instances only the one that it starts may move on then.
+// Offers the event to a job's `start on`. Then only the instance that this starts may move on.
 fn hear_start<B: Book>(
     alloc: Global,
     setup: &Setup,
@@ -124,7 +124,6 @@ fn hear_start<B: Book>(
     Ok(())
 }
 
-// A job hears of the event.
 fn hear<B: Book>(
     alloc: Global,
     setup: &Setup,
@@ -145,7 +144,7 @@ fn hear<B: Book>(
     Ok(())
 }
 
-// The first job from an index of the table on that hears of the event, with its index.
+// The first job at or after an index of the table that hears of the event, with its index.
 fn next_hearer<'a, B: Book>(
     setup: &'a Setup,
     book: &B,
@@ -175,7 +174,7 @@ fn next_hearer<'a, B: Book>(
 }
 
 /// Each job hears of the event that a turn takes up, one after another. The jobs that don't name it, or that rule it out by the literal
-/// values of their leaves, are passed by: what they remember of it is nothing.
+/// values of their leaves, are passed over: they remember nothing of it.
 pub fn hear_all<B: Book>(
     alloc: Global,
     setup: &Setup,

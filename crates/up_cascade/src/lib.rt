@@ -1,4 +1,4 @@
-//! The cascade: what a step brings about, until nothing is due.
+//! The cascade: the effects of a step, until nothing is due.
 #![tactic(auto)]
 
 mod environment;

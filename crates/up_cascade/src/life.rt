@@ -1,4 +1,4 @@
-//! What a job's processes run.
+//! Which processes a job has.
 ghost use Rattle.std.specs.Prelude.{◌≡◌};
 ghost use Rattle.up_model.specs.Moves as model;
 

@@ -24,7 +24,7 @@ use up_image::JobFile;
 use up_job::{InstanceKey, entering, next_state};
 use up_model::{Entry, Goal, JobDef, JobEvent, Process, State};
 
-// Whether an order was answered, if the job has the process.
+// Whether the order of a process was answered; true if the job doesn't have it.
 fn is_answered<B: Book>(book: &B, job: &JobDef, key: InstanceKey, process: Process) -> bool
     ensures { (mode : Mode) (config : Configuration) → OfInstance (B.stands book.now mode) config key (λ c i.
         result ≡ model.is_over job.now i (life.ForAnswer process) c) }
@@ -39,7 +39,7 @@ fn is_at_work<B: Book>(book: &B, key: InstanceKey, process: Process) -> bool
     book.awaits(key, process) || book.lives(key, process)
 }
 
-// Whether a process was refused or has ended, if the job has it.
+// Whether a process was refused or has ended; true if the job doesn't have it.
 fn is_through<B: Book>(book: &B, job: &JobDef, key: InstanceKey, process: Process) -> bool
     ensures { (mode : Mode) (config : Configuration) → OfInstance (B.stands book.now mode) config key (λ c i.
         result ≡ model.is_over job.now i (life.ForProcess process) c) }
@@ -54,7 +54,7 @@ fn is_main_gone<B: Book>(book: &B, job: &JobDef, key: InstanceKey) -> bool
     has_process(job, Process::Main) && !book.lives(key, Process::Main)
 }
 
-// Whether there is a reason to leave running.
+// Whether there is a reason to leave the state running.
 fn is_changed<B: Book>(book: &B, job: &JobDef, key: InstanceKey) -> bool
     ensures { (mode : Mode) (config : Configuration) → OfInstance (B.stands book.now mode) config key (λ c i.
         result ≡ model.is_over job.now i life.ForChange c) }
@@ -62,7 +62,7 @@ fn is_changed<B: Book>(book: &B, job: &JobDef, key: InstanceKey) -> bool
     !book.goal(key).is_start() || book.was_restarted(key) || is_main_gone(book, job, key)
 }
 
-// Whether what an instance waits for in a state has come.
+// Whether an instance is done waiting in a state.
 fn is_over<B: Book>(book: &B, job: &JobDef, key: InstanceKey, from: State) -> bool
     ensures { (mode : Mode) (config : Configuration) → OfInstance (B.stands book.now mode) config key (λ c i.
         result ≡ model.is_over job.now i (life.wait_in from) c) }
@@ -89,7 +89,7 @@ fn may_leave<B: Book>(book: &B, job: &JobDef, key: InstanceKey) -> bool
     is_over(book, job, key, from)
 }
 
-// The state that follows; an instance that waits and isn't to start stays.
+// The next state; an instance that is waiting with goal stop stays there.
 fn following(goal: Goal, from: State, has_main: bool, lives: bool) -> State
     ensures { result ≡ life.next_state goal from has_main lives }
 {
@@ -99,7 +99,6 @@ fn following(goal: Goal, from: State, has_main: bool, lives: bool) -> State
     }
 }
 
-// The state that an instance enters next.
 fn next_of<B: Book>(book: &B, job: &JobDef, key: InstanceKey) -> State
     ensures { (mode : Mode) (config : Configuration) → OfInstance (B.stands book.now mode) config key (λ c i.
         result ≡ model.next_of job.now i c) }
@@ -138,7 +137,6 @@ fn order<B: Book>(
     Ok(())
 }
 
-// Emits an event of an instance's life.
 fn emit<B: Book>(
     alloc: Global,
     book: &mut B,
@@ -167,7 +165,7 @@ fn emit<B: Book>(
     Ok(())
 }
 
-// Sends main its signal.
+// Sends the main process its kill signal.
 fn kill<B: Book>(book: &mut B, key: InstanceKey, signal: u8, kills: bool) -> Result<(), AllocError>
     ensures after { OnOk result ((config : Configuration) → OfInstance (B.stands book.old Stepping) config key
         (λ c i.
@@ -198,7 +196,7 @@ fn release<B: Book>(book: &mut B, key: InstanceKey, releases: bool) -> Result<()
     Ok(())
 }
 
-// Enters a state, and orders and emits what that asks for.
+// Enters a state, then orders the process and emits the event of its table entry.
 fn enter_with<B: Book>(
     alloc: Global,
     setup: &Setup,
@@ -228,7 +226,7 @@ fn enter_with<B: Book>(
     Ok(())
 }
 
-// Enters a state other than waiting, with all that the table says of that.
+// Enters a state other than waiting, with all effects of its table entry.
 fn enter_other<B: Book>(
     alloc: Global,
     setup: &Setup,
@@ -252,7 +250,7 @@ fn enter_other<B: Book>(
     Ok(())
 }
 
-// Enters waiting, with which the instance is gone.
+// Enters waiting, which removes the instance.
 fn enter_waiting<B: Book>(
     alloc: Global,
     book: &mut B,
@@ -332,7 +330,7 @@ pub(crate) fn moves<B: Book>(
     Ok(true)
 }
 
-/// The job file by which an instance was made, for one more owner.
+/// The job file that an instance was made from, for one more owner.
 pub(crate) fn file_of<B: Book>(book: &B, key: InstanceKey) -> Result<Option<JobFile>, AllocError>
     ensures { IfOk result (λ file. (mode : Mode) (config : Configuration)
         → OfWhole (B.stands book.now mode) config key (λ c its. file ≡ Some its.file)) }

@@ -1,4 +1,4 @@
-//! How the event of a turn is offered to the expressions, and what one does that fires.
+//! How the event of a turn is offered to the expressions, and the effect of one that fires.
 ghost use Rattle.std.specs.Prelude.{◌≡◌, ℕ, nat_lt, length, List, ◌++◌, map, None, Some, IfOk, OnOk};
 ghost use Rattle.up_book.specs.Histories.{HoldersAt, KeepsPlaces, OfInstance};
 ghost use Rattle.up_book.specs.Keys.{called, job_at, Mode, Stepping, name_at, instance_place};
@@ -23,7 +23,7 @@ use up_job::InstanceKey;
 use up_model::{EventId, Goal, JobDef, MAX_INSTANCES};
 use up_text::{Env, Expanded, Items, Text, TextFault, expand};
 
-/// The goal becomes stop, with this environment and these holders.
+/// Sets the goal to stop, with this environment and these holders.
 pub fn stop_of<B: Book>(
     book: &mut B,
     key: InstanceKey,
@@ -44,7 +44,7 @@ pub fn stop_of<B: Book>(
     Ok(())
 }
 
-// The goal becomes stop by these events, if it is start.
+// Sets the goal to stop by these events, if it is start.
 fn stop_by<B: Book>(
     alloc: Global,
     book: &mut B,
@@ -67,7 +67,6 @@ fn stop_by<B: Book>(
     Ok(())
 }
 
-// An instance's `stop on` fires.
 fn stop_fires<B: Book>(
     alloc: Global,
     setup: &Setup,
@@ -86,7 +85,6 @@ fn stop_fires<B: Book>(
     Ok(())
 }
 
-/// Offers the event to an instance's `stop on`.
 pub(crate) fn offer_stop<B: Book>(
     alloc: Global,
     setup: &Setup,
@@ -111,7 +109,7 @@ pub(crate) fn offer_stop<B: Book>(
     Ok(())
 }
 
-// The goal of an instance becomes start, if it is stop.
+// Sets the goal of an existing instance to start, if it is stop.
 fn start_old<B: Book>(
     book: &mut B,
     key: InstanceKey,
@@ -134,7 +132,7 @@ fn start_old<B: Book>(
     Ok(())
 }
 
-/// Whether a job may have an instance more.
+/// Whether a job may have one more instance.
 pub fn has_room<B: Book>(book: &B, job: usize) -> bool
     ensures { (mode : Mode) (config : Configuration) (c : Chronicle) (its : Bytes)
         → B.stands book.now mode config c → name_at config job ≡ Some its
@@ -143,7 +141,7 @@ pub fn has_room<B: Book>(book: &B, job: usize) -> bool
     book.count(job) < MAX_INSTANCES
 }
 
-// A job gets an instance, whose goal becomes start, if it may have one more.
+// Makes an instance with goal start, if the job may have one more.
 fn start_new<B: Book>(
     book: &mut B,
     index: usize,
@@ -170,7 +168,7 @@ fn start_new<B: Book>(
     Ok(())
 }
 
-// The goal of an instance becomes start with this environment.
+// Sets the goal of an instance to start; makes it if it doesn't exist.
 fn start_of<B: Book>(
     book: &mut B,
     index: usize,
@@ -197,7 +195,7 @@ fn start_of<B: Book>(
     Ok(())
 }
 
-/// The goal of an instance becomes start with this environment, and what that says of the instance. The job has this index.
+/// Sets the goal of an instance to start, with this environment plus UPSTART_JOB and UPSTART_INSTANCE. The job has this index.
 pub fn start_called<B: Book>(
     book: &mut B,
     index: usize,
@@ -235,7 +233,7 @@ fn instance_name(alloc: Global, job: &JobDef, environment: &Env) -> Result<Optio
     }
 }
 
-// A start by these events.
+// Starts by these events; does nothing if the instance name doesn't expand.
 fn start_by<B: Book>(
     alloc: Global,
     setup: &Setup,
@@ -274,7 +272,6 @@ fn start_by<B: Book>(
     Ok(())
 }
 
-// A job's `start on` fires.
 fn start_fires<B: Book>(
     alloc: Global,
     setup: &Setup,
@@ -294,7 +291,6 @@ fn start_fires<B: Book>(
     Ok(())
 }
 
-/// Offers the event to a job's `start on`.
 pub(crate) fn offer_start<B: Book>(
     alloc: Global,
     setup: &Setup,

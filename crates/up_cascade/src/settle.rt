@@ -1,4 +1,4 @@
-//! What is due is done until nothing is.
+//! Does what is due until nothing is.
 ghost use Rattle.std.specs.Prelude.{◌≡◌, ◌++◌, Some, OnOk};
 ghost use Rattle.up_book.specs.Histories.{KeepsPlaces, OfWhole};
 ghost use Rattle.up_book.specs.Keys.{Stepping, name_at};
@@ -14,7 +14,7 @@ use std::alloc::{AllocError, Global};
 use up_book::Book;
 use up_job::InstanceKey;
 
-/// Moves each instance of the job of an index on, as long as it may.
+/// Moves each instance of the job at an index on, as long as it may.
 pub(crate) fn settle_each<B: Book>(
     alloc: Global,
     setup: &Setup,

@@ -1,4 +1,4 @@
-//! What an engine is made with.
+//! The setup of an engine: its jobs and their environments.
 ghost use Rattle.std.specs.Prelude.{◌≡◌, ◌++◌, is_some, not, true, map, None, Some, slice_get, unwrap_or, IfOk, OnOk, IfSome, IfNone};
 ghost use Rattle.std.specs.Option.{option_copied};
 ghost use Rattle.std.specs.Str.{bytes_eq};
@@ -26,7 +26,7 @@ use up_image::{JobFile, Table};
 use up_text::{Env, Name, Text};
 
 /// The jobs, the names of those that a load removed, the environment that init was started with, and on top of that the one of each job,
-/// made once. Contracts see what a run stands on.
+/// made once. Contracts see the configuration of a run.
 #[derive(Drop)]
 pub struct Setup {
     base: Env,
@@ -53,7 +53,7 @@ impl Model for Setup {
     ghost invariant = { λ s. (s.environments.items ≡ map (job_env s.base) s.files.items) × AreInOrder name_of s.files.items };
 }
 
-// The value that a setting gives its key, if it gives one.
+// The value that a setting assigns to its key: its own, or else that of the base.
 fn setting_value<'a>(base: &'a Env, key: &str, value: Option<&'a Text>) -> Option<&'a str>
     ensures { option_copied result ≡ setting_value base.now key.now (option_copied value.entry) }
 {
@@ -72,7 +72,7 @@ fn set(env: &mut Env, key: &str, value: Option<&str>) -> Result<(), AllocError>
     }
 }
 
-// The keys and values of a job are ones that an environment takes, so that it refuses them only if it is out of memory.
+// The keys and values of a job are valid for an environment, so an error means out of memory.
 fn put(env: &mut Env, key: &str, value: &str) -> Result<(), AllocError>
     ensures { OnOk result (env.new ≡ with_value key.now (Some value.now) env.old) }
 {
@@ -118,7 +118,7 @@ fn environments_of(alloc: Global, base: &Env, jobs: &[JobFile]) -> Result<Vec<En
     Ok(all)
 }
 
-// The one of these environments that is at a place, or the base.
+// The environment at this place, or the base.
 fn environment_at<'a>(base: &'a Env, environments: &'a [Env], place: usize) -> &'a Env
     ensures { result.now ≡ unwrap_or (slice_get environments.now place) base.now }
 {
@@ -167,7 +167,6 @@ fn find_job<'a>(jobs: &'a [JobFile], name: &str) -> Option<(usize, &'a JobFile)>
     }
 }
 
-// A file without the `start on`.
 fn without_start(alloc: Global, file: &JobFile) -> Result<JobFile, AllocError>
     ensures { IfOk result (λ its. its ≡ without_start file.now) }
 {
@@ -195,7 +194,7 @@ fn has_instances<B: Book>(book: &B, index: usize) -> bool
     book.count(index) > 0
 }
 
-// Whether a job goes on that new ones don't have.
+// Whether a job goes on: the new ones lack it, but it has instances.
 fn goes_on<B: Book>(new: &[JobFile], book: &B, index: usize, file: &JobFile) -> bool
     requires { AreInOrder name_of new.now }
     ensures means { (mode : Mode) (config : Configuration) (c : Chronicle) → B.stands book.now mode config c
@@ -205,7 +204,7 @@ fn goes_on<B: Book>(new: &[JobFile], book: &B, index: usize, file: &JobFile) -> 
     is_new(new, file.job().name.as_str()) && has_instances(book, index)
 }
 
-// Those of these jobs that go on, which new ones don't have.
+// The old jobs that go on though the new ones lack them.
 fn going_on<B: Book>(
     alloc: Global,
     new: &[JobFile],
@@ -271,7 +270,7 @@ impl Setup {
         })
     }
 
-    /// The jobs of a table in force in place of those before, of which those with instances go on.
+    /// The jobs of a table in place of the old ones, of which those with instances go on.
     pub fn load<B: Book>(&self, alloc: Global, book: &B, table: Table) -> Result<Self, AllocError>
         ensures { IfOk result (λ setup. (mode : Mode) (c : Chronicle) → B.stands book.now mode self.now c
             → setup ≡ with_jobs table self.now c) }
@@ -306,21 +305,20 @@ impl Setup {
         self.files.as_slice()
     }
 
-    /// They are in this order.
+    /// The jobs are in byte order of names.
     pub fn is_ordered(&self)
         ensures { AreInOrder name_of self.now.jobs }
     {
         let _files = &self.files;
     }
 
-    /// No two jobs have one name.
+    /// No two jobs have the same name.
     pub fn names_differ(&self)
         ensures { AreDistinct self.now.jobs }
     {
         let _files = &self.files;
     }
 
-    /// The job of this name, and its index.
     pub fn job_named(&self, name: &str) -> Option<(usize, &JobFile)>
         ensures some { IfSome result (λ found. (job_named name.now self.now.jobs ≡ Some found.1.now)
             × (name_at self.now found.0 ≡ Some name.now) × (job_at self.now found.0 ≡ Some found.1.now) × (found.1.now.name ≡ name.now)) }
@@ -336,14 +334,13 @@ impl Setup {
         &self.base
     }
 
-    /// The environment of a job by a file.
+    /// The environment of a job by this definition.
     pub(crate) fn environment_by(&self, job: &JobDef) -> Result<Env, AllocError>
         ensures { IfOk result (λ env. env ≡ job_env self.now.base job.now) }
     {
         environment_of(&self.base, job)
     }
 
-    /// The environment of the job at this index.
     pub fn environment_at(&self, index: usize) -> &Env
         ensures { (job : JobDefValue) → job_at self.now index ≡ Some job
             → result.now ≡ env_of_job self.now job.name }

@@ -5,21 +5,21 @@ use std::alloc::{AllocError, Global};
 /// The longest pause between two rounds, in milliseconds.
 const MAX_PAUSE: i64 = 60_000;
 
-/// The longest time for which a client may be silent, in seconds: a day.
+/// The longest time that a client may be silent, in seconds: a day.
 const MAX_SILENCE: i64 = 86_400;
 
-// How an argument is given, and what it may be.
+// How an argument is passed, and which values it takes.
 #[derive(Clone, Copy)]
 enum ArgumentKind {
-    // In its place, and required.
+    // By position, required.
     Place,
-    // In its place, or left out.
+    // By position, optional.
     LastPlace,
     // After its option.
     Text,
-    // After its option, which can't be given beside another.
+    // After its option, which excludes another.
     InsteadOf(&'static str),
-    // After its option, which may be given again and again.
+    // After its option, which may be repeated.
     Texts,
     // The option alone.
     Flag,
@@ -31,10 +31,10 @@ enum ArgumentKind {
     Timeout,
 }
 
-// An argument of a command. An option has its name after two dashes.
+// An argument of a command. An option is its name after two dashes.
 struct Argument {
     id: &'static str,
-    // What stands for it in the help.
+    // Its placeholder in the help.
     shown: &'static str,
     help: &'static str,
     kind: ArgumentKind,
@@ -236,7 +236,7 @@ fn option<'a>(arg: Arg<'a>, argument: &Argument) -> Arg<'a> {
         .action(ArgAction::Set)
 }
 
-// An option with a value that can't be given beside another.
+// An option with a value that excludes another option.
 fn option_instead<'a>(
     arg: Arg<'a>,
     argument: &Argument,
@@ -270,7 +270,7 @@ fn arg_of<'a>(alloc: Global, argument: &Argument) -> Result<Arg<'a>, AllocError>
     }
 }
 
-// A command with one argument more. Neither is owned at a `?`, where it would be dropped field by field.
+// A command with one more argument. Neither is owned at a `?`, where it would be dropped field by field.
 fn add_argument<'a>(
     command: Command<'a>,
     arg: Result<Arg<'a>, AllocError>,
@@ -292,7 +292,7 @@ fn command_of<'a>(alloc: Global, subcommand: &Subcommand) -> Result<Command<'a>,
     Ok(command)
 }
 
-// A command line with one command more.
+// A command line with one more command.
 fn add<'a>(
     line: Command<'a>,
     command: Result<Command<'a>, AllocError>,
@@ -306,7 +306,7 @@ fn add<'a>(
     }
 }
 
-/// The commands of the program. Without a word it reads a bundle from standard input.
+/// The commands of the program. Without a command it reads a bundle from standard input.
 pub(crate) fn command<'a>(alloc: Global) -> Result<Command<'a>, AllocError> {
     let mut line = Command::new(alloc, "initd").version("0.1.0").about(
         "Runs and replays job files; without a command, replays a bundle on standard input",

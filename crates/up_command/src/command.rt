@@ -17,17 +17,17 @@ use up_text::{Env, Items, Text, TextFault};
 use up_tools::{Kind, View, kind_named};
 use up_wire::DEFAULT_SOCKET;
 
-/// What the program is asked for.
+/// The request of a command line.
 #[derive(Drop)]
 pub enum Invocation<'a> {
     /// To replay the bundle on standard input.
     Bundle,
-    /// To report the faults of a folder, perhaps with what each means.
+    /// To report the faults of a folder, with `explain` what each means.
     Check {
         dir: &'a str,
         explain: bool,
     },
-    /// To print what a reload from another folder or an image to a folder changes.
+    /// To print the changes by a reload from another folder or an image to a folder.
     Compare {
         dir: &'a str,
         other: &'a str,
@@ -39,7 +39,7 @@ pub enum Invocation<'a> {
     /// To print the warnings of a folder.
     Lint {
         dir: &'a str,
-        /// The kinds of which none is printed.
+        /// The kinds that aren't printed.
         left_out: Items<Kind>,
         /// The names of the events that come from outside.
         outside: Items<Text>,
@@ -49,7 +49,7 @@ pub enum Invocation<'a> {
         dir: &'a str,
         image: &'a str,
     },
-    /// To print what an image says.
+    /// To print the contents of an image.
     Show {
         image: &'a str,
     },
@@ -57,22 +57,22 @@ pub enum Invocation<'a> {
     Replay {
         source: &'a str,
         script: &'a str,
-        /// The variables of each process, on top of which its job's are set.
+        /// The base environment of each process; its job's variables are set on top.
         base: Env,
     },
     /// To replay the bundle in a file.
     ReplayFile {
         bundle: &'a str,
-        /// The variables of each process, on top of which its job's are set.
+        /// The base environment of each process; its job's variables are set on top.
         base: Env,
     },
-    /// To show what a record says of a run over a folder or an image.
+    /// To show the contents of a record over a folder or an image.
     View {
         view: View,
         source: &'a str,
         log: &'a str,
     },
-    /// To show what a record says that is a bundle.
+    /// To show the contents of a record that is a bundle.
     ViewFile {
         view: View,
         bundle: &'a str,
@@ -103,7 +103,7 @@ fn parse_compile<'a>(given: &ArgMatches<'a>) -> Option<Invocation<'a>> {
     Some(Invocation::Compile { dir, image })
 }
 
-// A folder or an image, and the file of what happened to it; or a bundle, which has both and stands alone.
+// A folder or an image, and the file of what happened to it; or a bundle, which contains both.
 #[derive(Clone, Copy, Drop)]
 enum Replayed<'a> {
     Over(&'a str, &'a str),
@@ -190,7 +190,7 @@ fn parse_replay<'a>(
     }))
 }
 
-// The kinds of these names.
+// The kinds of these names; an error if a name is unknown.
 fn kinds_of(alloc: Global, names: &[&str]) -> Result<Items<Kind>, TextFault> {
     let mut kinds: Vec<Kind> = Vec::new(alloc);
     for name in names {
@@ -227,7 +227,7 @@ fn parse_lint<'a>(
     }))
 }
 
-// What a command asks for that takes no values which may be wrong.
+// The request of a command without values that may be wrong.
 fn parse_plain<'a>(word: &str, given: &ArgMatches<'a>) -> Option<Invocation<'a>> {
     match word {
         "check" => parse_check(given),
@@ -242,7 +242,7 @@ fn parse_plain<'a>(word: &str, given: &ArgMatches<'a>) -> Option<Invocation<'a>>
     }
 }
 
-// What a command asks for; `None` if one of its words is missing.
+// The request of a command; `None` if one of its words is missing.
 fn parse_subcommand<'a>(
     alloc: Global,
     word: &str,
@@ -255,7 +255,7 @@ fn parse_subcommand<'a>(
     }
 }
 
-// What an option takes of whose value a command complains.
+// The explanation of the option whose value a command refuses.
 fn wanted(word: &str) -> &'static str {
     match word {
         "lint" => "--allow takes the name of a kind of warning, as unknown-event",
@@ -263,7 +263,7 @@ fn wanted(word: &str) -> &'static str {
     }
 }
 
-// Why the words of a command are refused: one is missing, or is there beside a bundle.
+// The reason to refuse the words of a command: one is missing, or is superfluous with a bundle.
 fn missing_word(word: &str, given: &ArgMatches) -> &'static str {
     match (word, is_set(given, "bundle")) {
         ("replay", false) =>
@@ -274,7 +274,7 @@ fn missing_word(word: &str, given: &ArgMatches) -> &'static str {
     }
 }
 
-// What the matches of a command line ask for.
+// The request in the matches of a command line.
 fn parse_matches<'a>(
     alloc: Global,
     command: &mut Command<'a>,
@@ -294,7 +294,7 @@ fn parse_matches<'a>(
     }
 }
 
-// What the words of a command line ask for.
+// The request in the words of a command line.
 fn parse_by<'a>(
     alloc: Global,
     command: &mut Command<'a>,
@@ -310,7 +310,7 @@ fn parse_by<'a>(
     }
 }
 
-/// What the words of a command line, the program's name first, ask for. An error is also the text of `--help` and `--version`.
+/// The request in the words of a command line, the program's name first. An error is also the text of `--help` and `--version`.
 pub fn parse_args<'a>(alloc: Global, words: &'a [String]) -> Result<Invocation<'a>, Error> {
     match command(alloc) {
         Ok(mut command) => {

@@ -1,4 +1,4 @@
-//! What the words of a command line ask for, and the status of what is done for it.
+//! The requests of command lines, and their exit status.
 #![tactic(auto)]
 
 mod arguments;

@@ -1,10 +1,10 @@
-//! A reader that keeps why it couldn't be read.
+//! A reader that keeps its last error.
 use std::io;
 use std::io::{Eprint, ErrorKind, Read};
 use up_disk::why::{say, say_error};
 use up_script::bundle::MAX_BUNDLE;
 
-/// A reader, with how many bytes were read of it, and the last error.
+/// A reader, with the number of bytes read from it, and its last error.
 #[derive(Drop)]
 pub(crate) struct Noted<R> {
     inner: R,
@@ -13,7 +13,6 @@ pub(crate) struct Noted<R> {
 }
 
 impl<R: Read> Noted<R> {
-    /// A reader of which nothing was read.
     pub(crate) fn new(inner: R) -> Self {
         Noted {
             inner,
@@ -22,7 +21,7 @@ impl<R: Read> Noted<R> {
         }
     }
 
-    /// Says why the bundle on standard input can't be used, if it is that.
+    /// Reports why the bundle on standard input can't be used, if the reader is the reason.
     pub(crate) fn say_why<E: Eprint>(&self, rt: &E) {
         match self.error {
             Some(error) => say_error(rt, "-", &error),
@@ -42,7 +41,7 @@ impl<R: Read> Read for Noted<R> {
         let read = self.inner.read(buf);
         match read {
             Ok(count) => self.count = self.count.saturating_add(count as u64),
-            // The reader goes on after it.
+            // The caller reads on after it.
             Err(error) if error.kind() == ErrorKind::Interrupted => {}
             Err(error) => self.error = Some(error),
         }

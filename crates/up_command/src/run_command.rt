@@ -1,4 +1,4 @@
-//! Does what a command line asks for.
+//! Carries out the request of a command line.
 ghost use Rattle.std.specs.Prelude.{IfOk};
 ghost use Rattle.up_command.specs.Answers.{Answers};
 
@@ -19,7 +19,7 @@ use up_replay::replay::replay_bundle;
 use up_run::run_source;
 use up_tools::{compare_dir, lint_dir, view_file, view_source};
 
-// Replays standard input, and returns the status. If it can't be used it is said why.
+// Replays standard input, and returns the status. If standard input can't be used, the reason is reported.
 fn replay_input(rt: &(impl Input + Print + Eprint + AllocGlobal)) -> io::Result<ExitStatus> {
     let mut reader = Noted::new(rt.reader());
     let mut writer = BufWriter::new(rt.alloc(), io::writer(rt))?;
@@ -31,8 +31,8 @@ fn replay_input(rt: &(impl Input + Print + Eprint + AllocGlobal)) -> io::Result<
     Ok(status)
 }
 
-/// Does what is asked for, prints on standard output, and returns the status: that of what is printed, `Unusable` if it can't be written,
-/// `Memory` if memory ran out. An error is that of the standard output, or memory ran out for its buffer.
+/// Carries out a request, prints on standard output, and returns the status: that of the output, `Unusable` if it can't be written,
+/// `Memory` if out of memory. An error is that of standard output, or out of memory for its buffer.
 pub fn run_command<
     R: Files<File = File>
         + Net

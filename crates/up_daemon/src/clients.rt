@@ -1,4 +1,4 @@
-//! The clients of the daemon, in the order in which they came.
+//! The clients of the daemon, in the order of their arrival.
 ghost use Rattle.std.specs.List.{AllByRecursion, list_any};
 ghost use Rattle.std.specs.Prelude.{◌≡◌, ◌≤◌, ◌<◌, ◌+◌, ◌++◌, ◌∷◌, ℕ, List, [], true, false, IfOk, OnOk, IfSome, IfNone, vec_len};
 ghost use Rattle.up_daemon.specs.Connected.{AreConnected};
@@ -18,17 +18,17 @@ use std::mem;
 use up_edge::Door;
 use up_model::{Answer, Request};
 
-/// The most clients that are connected.
+/// The maximum number of connected clients.
 const MOST_CLIENTS: usize = 64;
 
-/// The clients that are connected, oldest first.
+/// The connected clients, oldest first.
 #[derive(Drop)]
 pub(crate) struct Clients {
     alloc: Global,
     list: Vec<Client>,
 }
 
-// Reads the client once, if it may be read, and closes it if it can't be read on. False if it was closed.
+// Reads the client once, if it may be read, and closes it if it can't be read any further. False if it was closed.
 fn read_or_close<D: Door>(client: &mut Client, door: &mut D) -> Result<bool, AllocError>
     ensures reads { IfOk result (λ stays. (config : Configuration) (c : Chronicle) (start : DaemonState)
         (unread : List Peer) (state : RoundState)
@@ -64,7 +64,6 @@ fn write_or_close<D: Door>(client: &mut Client, door: &mut D) -> Result<bool, Al
     Ok(false)
 }
 
-// Whether a client with this number waits for something.
 fn one_waits(clients: &[Client], number: u32) -> bool
     ensures { result ≡ list_any (λ client. waits number (peer_of client)) clients.now }
 {
@@ -72,7 +71,6 @@ fn one_waits(clients: &[Client], number: u32) -> bool
 }
 
 impl Clients {
-    /// Nobody is connected.
     pub(crate) fn new(alloc: Global) -> Self
         ensures { result.list.items ≡ [] }
     {
@@ -82,7 +80,7 @@ impl Clients {
         }
     }
 
-    // Lets one client in. False if nobody waits, the door failed, or as many are connected as may be.
+    // Lets one client in. False if nobody waits, the door failed, or the maximum number is connected.
     fn let_one_in<D: Door>(&mut self, door: &mut D) -> Result<bool, AllocError>
         ensures full { OnOk result (most_clients ≤ vec_len self.old.list
             → (self.new.list.items ≡ self.old.list.items) × (D.calls door.new ≡ D.calls door.old)) }
@@ -109,7 +107,7 @@ impl Clients {
         }
     }
 
-    /// Lets in those who wait, while there is room for them.
+    /// Lets in the clients that wait, while there is room for them.
     pub(crate) fn let_in<D: Door>(&mut self, door: &mut D) -> Result<(), AllocError>
         ensures lets_in { OnOk result ((config : Configuration) (c : Chronicle) (start : DaemonState)
             (state : RoundState)
@@ -129,7 +127,7 @@ impl Clients {
         Ok(())
     }
 
-    /// Reads each client once that has few enough requests. One that can't be read on is closed.
+    /// Reads each client once that has few enough requests. One that can't be read any further is closed.
     pub(crate) fn read<D: Door>(&mut self, door: &mut D) -> Result<(), AllocError>
         ensures reads { OnOk result ((config : Configuration) (c : Chronicle) (start : DaemonState)
             (state : RoundState)
@@ -150,7 +148,7 @@ impl Clients {
         Ok(())
     }
 
-    /// Writes once to each client for whom bytes wait. One that can't be written to is closed.
+    /// Writes once to each client that has waiting bytes. One that can't be written to is closed.
     pub(crate) fn write<D: Door>(&mut self, door: &mut D) -> Result<(), AllocError>
         ensures writes { OnOk result ((config : Configuration) (c : Chronicle) (start : DaemonState)
             (state : RoundState)
@@ -171,7 +169,7 @@ impl Clients {
         Ok(())
     }
 
-    /// The next request that may enter, under this number: that of the first client who has one and waits for no answer.
+    /// The next request that may enter, under this number: that of the first client that has one and waits for no answer.
     pub(crate) fn enter(&mut self, id: u64) -> Option<Request>
         ensures entered { IfSome result (λ request. IsEntered id request (peers_of self.old.list.items)
             (peers_of self.new.list.items)) }
@@ -187,7 +185,6 @@ impl Clients {
         None
     }
 
-    /// Whether a client with this number waits for something.
     pub(crate) fn waits(&self, number: u32) -> bool
         ensures { result ≡ one_waits number (peers_of self.now.list.items) }
     {

@@ -14,7 +14,7 @@ fn copies(alloc: Global, outputs: &[Output]) -> Result<Vec<Output>, AllocError>
     Ok(copied)
 }
 
-/// Puts copies of the outputs on a stack, so that the first is the next to be taken.
+/// Pushes copies of the outputs on a stack, so that the first is the next to be taken.
 #[tactic(auto, using(crate::proofs::Stacks::reverse_pushed))]
 pub(crate) fn push_copies(
     alloc: Global,

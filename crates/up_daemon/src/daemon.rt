@@ -104,10 +104,10 @@ impl Daemon {
     }
 
     /// One round: feeds the events with which the daemon begins, if it is the first; reads the clock, looks for ends, lets clients in, reads
-    /// each once, lets their requests enter, turns the queue of events, and writes once to each client for whom bytes wait. The orders of
-    /// each step are carried out at once. For a request to reload the configuration the source is called once, and what it gives is loaded.
-    /// It waits for nobody.
-    /// Refused with `Down` if the engine is down or an earlier round was refused, and with `Memory`, after which what it did stands.
+    /// each once, lets their requests enter, turns the queue of events, and writes once to each client with waiting bytes. The orders of
+    /// each step are carried out at once. For a request to reload the configuration the source is called once, and its result is loaded.
+    /// It never waits.
+    /// Refused with `Down` if the engine is down or an earlier round was refused, and with `Memory`; what it did before that remains done.
     pub fn round<H: Host, D: Door, S: Source>(
         &mut self,
         host: &mut H,

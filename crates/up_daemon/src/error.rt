@@ -8,10 +8,10 @@ use thiserror::Error;
 /// Why a daemon refuses a round.
 #[derive(Clone, Copy, Debug, PartialEq, Eq, Error)]
 pub enum DaemonError {
-    /// The engine was down as the round began, or an earlier round was refused.
+    /// The engine was down when the round began, or an earlier round was refused.
     #[error("Down")]
     Down,
-    /// Memory was refused. What the round did so far stands.
+    /// Out of memory. What the round did so far remains done.
     #[error("Memory")]
     Memory,
 }

@@ -1,4 +1,4 @@
-//! Laws of a round, of the relation that says what it does.
+//! Laws of a round, for the relation that defines its effects.
 ghost use Rattle.up_daemon.specs.Laws.{ClosesForCause, CountsCalls, LosesNothing, NumbersRequests, KeepsWhole};
 
 /// No request and no reply is lost: the bytes written to a client and those that still wait are the frames of the replies to its

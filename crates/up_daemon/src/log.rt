@@ -1,18 +1,18 @@
-//! What a round fed to the engine, and what the engine answered.
+//! The inputs that a round fed to the engine, and the engine's outputs.
 ghost use Rattle.std.specs.Prelude.{◌≡◌, ◌++◌, ◌∷◌, [], IfOk, OnOk};
 
 use std::alloc::{AllocError, Global};
 use up_model::{Input, Output};
 use up_text::Items;
 
-/// What a round did: the inputs that the engine was fed, and what it gave for each, nothing if the input wasn't expected.
+/// The outcome of a round: the inputs that the engine was fed, and the outputs for each, none if the input wasn't expected.
 #[derive(Drop)]
 pub struct Round {
     pub fed: Items<Input>,
     pub gave: Items<Items<Output>>,
 }
 
-/// What a round did so far.
+/// The log of a round so far.
 #[derive(Drop)]
 pub(crate) struct Log {
     pub(crate) fed: Vec<Input>,
@@ -20,7 +20,6 @@ pub(crate) struct Log {
 }
 
 impl Log {
-    /// Nothing was done.
     pub(crate) fn new(alloc: Global) -> Self
         ensures fed { result.fed.items ≡ [] }
         ensures gave { result.gave.items ≡ [] }
@@ -31,7 +30,6 @@ impl Log {
         }
     }
 
-    /// Adds an input and its outputs.
     pub(crate) fn add(&mut self, given: Input, outputs: Vec<Output>) -> Result<(), AllocError>
         ensures fed { OnOk result (self.new.fed.items ≡ self.old.fed.items ++ given ∷ []) }
         ensures gave { OnOk result (self.new.gave.items ≡ self.old.gave.items ++ outputs.items ∷ []) }
@@ -41,7 +39,6 @@ impl Log {
         Ok(())
     }
 
-    /// The round that was done.
     pub(crate) fn into_round(self) -> Round
         ensures fed { result.fed ≡ self.fed.items }
         ensures gave { result.gave ≡ self.gave.items }

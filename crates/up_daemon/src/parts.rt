@@ -18,10 +18,10 @@ use std::alloc::AllocError;
 use up_edge::{Door, Host, Source};
 use up_model::{Command, Event, Input, Loaded, Request};
 
-/// The most turns of a round.
+/// The maximum number of turns of a round.
 const MOST_TURNS: u32 = 256;
 
-// What a request is fed as: for one to reload the configuration the source is called once.
+// The input for a request: for one to reload the configuration the source is called once.
 fn input_of<S: Source>(source: &mut S, id: u64, request: Request) -> Input
     ensures { IsAsked id request result (S.calls source.old) (S.calls source.new) }
 {
@@ -116,7 +116,7 @@ impl Work {
         Ok(())
     }
 
-    /// Writes once to each client for whom bytes wait.
+    /// Writes once to each client that has waiting bytes.
     pub(crate) fn write<D: Door>(&mut self, door: &mut D) -> Result<(), AllocError>
         ensures untouched { IsUntouched self.old self.new }
         ensures writes { OnOk result ((config : Configuration) (c : Chronicle) (start : DaemonState)

@@ -22,7 +22,7 @@ use up_edge::Host;
 use up_engine::{Engine, StepError};
 use up_model::{Input, Order, Output, Who};
 
-/// What a daemon works with: its engine, its clients, and what the round did so far.
+/// The parts of a daemon at work: its engine, its clients, and the log of the round so far.
 #[derive(Drop)]
 pub(crate) struct Work {
     pub(crate) alloc: Global,
@@ -33,7 +33,7 @@ pub(crate) struct Work {
     pub(crate) log: Log,
 }
 
-// What the engine gives for an input: nothing if the input isn't expected. An engine that is down is refused as one without memory.
+// The outputs for an input: none if the input isn't expected. An engine that is down is refused as one that is out of memory.
 fn outputs_of(alloc: Global, engine: &mut Engine, given: Input) -> Result<Vec<Output>, AllocError>
     ensures answers { IfOk result (λ outputs. (config : Configuration) (c : Chronicle)
         → IsAnswered engine.old engine.new config c given outputs.items) }
@@ -48,7 +48,7 @@ fn outputs_of(alloc: Global, engine: &mut Engine, given: Input) -> Result<Vec<Ou
     }
 }
 
-// The answer of an order's process.
+// The input that answers an order: spawned with this process number, or refused without one.
 fn answer_of(order: Order, pid: Option<u32>) -> Input
     ensures { MatchOption pid (result ≡ ran_not order) (λ pid. result ≡ ran order pid) }
 {
@@ -69,7 +69,7 @@ fn answer_of(order: Order, pid: Option<u32>) -> Input
     }
 }
 
-// The host starts the process once, and the input is its answer.
+// Starts the process once; the input reports the outcome.
 fn start<H: Host>(host: &mut H, order: Order) -> Input
     ensures started { IsStarted order result (H.calls host.old) (H.calls host.new) }
     ensures calm { is_calm result ≡ true }
@@ -81,7 +81,7 @@ fn start<H: Host>(host: &mut H, order: Order) -> Input
     }
 }
 
-// The host sends the signal once.
+// Sends the signal once; a failure is ignored.
 fn send<H: Host>(host: &mut H, who: &Who, pid: u32, signal: u8)
     ensures sent { IsSent who.now pid signal (H.calls host.old) (H.calls host.new) }
     ensures lives { H.living host.new ≡ H.living host.old }
@@ -96,7 +96,7 @@ impl Work {
     ghost use Rattle.up_daemon.specs.Ending.{starts_left, ends_left, waiting_of, with_start};
     ghost use Rattle.up_daemon.specs.Working.{IsFed, IsAt, Carries, Comes, state_of, numbers_in};
 
-    // Feeds one input, and puts what it gives on the stack of orders.
+    // Feeds one input, and puts its outputs on the stack of orders.
     fn feed(&mut self, given: Input, stack: &mut Vec<Output>) -> Result<(), AllocError>
         ensures fed { OnOk result (IsFed given self.old self.new stack.old.items stack.new.items) }
         ensures left { OnOk result (is_calm given ≡ true
@@ -110,7 +110,7 @@ impl Work {
         Ok(())
     }
 
-    // Starts a process, and feeds its answer.
+    // Starts a process, and feeds the outcome.
     fn carry_start<H: Host>(
         &mut self,
         host: &mut H,
@@ -132,7 +132,7 @@ impl Work {
         Ok(())
     }
 
-    // Carries one order out, unless it is a start, which is handed back.
+    // Carries out one order, except a start, which is returned.
     fn carry_one<H: Host>(
         &mut self,
         host: &mut H,
@@ -164,7 +164,7 @@ impl Work {
         }
     }
 
-    // Carries orders out, the last of the stack first, up to a start, which is handed back, or until none is left.
+    // Carries out orders, the last of the stack first, up to a start, which is returned, or until none is left.
     fn carry_to_start<H: Host>(
         &mut self,
         host: &mut H,
@@ -189,7 +189,7 @@ impl Work {
         Ok(None)
     }
 
-    // Carries orders out until none is left, the last first.
+    // Carries out orders until none is left, the last first.
     fn carry<H: Host>(&mut self, host: &mut H, mut stack: Vec<Output>) -> Result<(), AllocError>
         ensures carries { OnOk result (Carries self.old (H.calls host.old) (reverse stack.items)
             self.new (H.calls host.new) []) }
@@ -204,7 +204,7 @@ impl Work {
         Ok(())
     }
 
-    /// Feeds one input, and carries out what comes of it.
+    /// Feeds one input, and carries out its outputs.
     pub(crate) fn take<H: Host>(&mut self, host: &mut H, given: Input) -> Result<(), AllocError>
         ensures takes { OnOk result ((config : Configuration) (c : Chronicle) (start : DaemonState) (part : Part)
             → HasOrders part → (door : Calls Passed) (source : Calls Loaded)

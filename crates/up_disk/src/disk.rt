@@ -17,7 +17,7 @@ use up_script::bundle::MAX_BUNDLE;
 use up_script::read_inputs;
 use up_text::Env;
 
-/// What a check of a folder on the disk prints.
+/// The output of a check of a folder on the disk.
 pub fn check_dir<R: Files + Eprint + AllocGlobal + Clone + Drop>(
     rt: &R,
     dir: &str,
@@ -30,7 +30,7 @@ pub fn check_dir<R: Files + Eprint + AllocGlobal + Clone + Drop>(
     }
 }
 
-/// What a check of a folder on the disk prints that explains the faults: below each the line at fault, and what to do.
+/// The output of a check of a folder on the disk that explains the faults: below each the line at fault, and what to do.
 pub fn explain_dir<R: Files + Eprint + AllocGlobal + Clone + Drop>(
     rt: &R,
     dir: &str,
@@ -56,7 +56,7 @@ pub fn graph_dir<R: Files + Eprint + AllocGlobal + Clone + Drop>(
     }
 }
 
-// The bytes of a script, if it can be read and is no longer than a bundle may be.
+// The bytes of a script; none if it can't be read or is longer than a bundle may be.
 fn read_script<R: Files + Eprint + AllocGlobal>(
     rt: &R,
     script: &str,
@@ -81,7 +81,7 @@ fn read_script<R: Files + Eprint + AllocGlobal>(
     }
 }
 
-/// What a script does to the files of a folder.
+/// The output of a replay of a script over the files of a folder.
 pub(crate) fn play<R: Files + Eprint + AllocGlobal>(
     rt: &R,
     folder: &Folder,
@@ -100,7 +100,7 @@ pub(crate) fn play<R: Files + Eprint + AllocGlobal>(
     }
 }
 
-// The same of the files that a walk found.
+// The same for the files that a walk found.
 fn replay_folder<R: Files + Eprint + AllocGlobal>(
     rt: &R,
     folder: &Folder,
@@ -113,7 +113,7 @@ fn replay_folder<R: Files + Eprint + AllocGlobal>(
     play(rt, folder, base, script)
 }
 
-/// What a replay of a script over a folder on the disk prints, if each process gets the base environment. Both are read before anything
+/// The output of a replay of a script over a folder on the disk; each process gets the base environment. Both are read before anything
 /// is printed, the folder first.
 pub fn replay_dir<R: Files + Eprint + AllocGlobal + Clone + Drop>(
     rt: &R,
@@ -129,7 +129,7 @@ pub fn replay_dir<R: Files + Eprint + AllocGlobal + Clone + Drop>(
     }
 }
 
-/// What a replay of the bundle in a file prints, if each process gets the base environment.
+/// The output of a replay of the bundle in a file; each process gets the base environment.
 pub fn replay_file<R: Files + Eprint + AllocGlobal>(
     rt: &R,
     bundle: &str,

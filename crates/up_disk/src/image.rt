@@ -1,4 +1,4 @@
-//! Images of tables on the disk: writes the one of a folder, and prints what one says.
+//! Images of tables on the disk: writes the image of a folder, and prints the job files that an image contains.
 ghost use Rattle.std.specs.Prelude.{◌≡◌, ◌+◌, ◌≤◌, Decides, IfOk, IfSome, length, option_map};
 ghost use Rattle.up_disk.specs.Disk.{CompilesDir, Defines, DefinesAll, DefinesImage, IsUnusable, KeepsBundle, ShowsBytes, ShowsFile, ShowsTable, StoresFiles, StoresTable};
 ghost use Rattle.up_disk.specs.Walk.{IsWalked};
@@ -21,14 +21,14 @@ use up_script::bundle::MAX_BUNDLE;
 use up_script::read_bundle;
 use up_text::Items;
 
-// Writes all bytes to a new file, and has them on the disk.
+// Writes all bytes to a new file, and syncs it to the disk.
 fn fill_new<R: Files>(rt: &R, path: &str, bytes: &[u8]) -> io::Result<()> {
     let mut file = File::create_new(rt, path)?;
     file.write_all(bytes)?;
     file.sync_all()
 }
 
-// Moves a whole file to its name, or removes it.
+// Renames a whole file to its path, or removes it.
 fn put_in_place<R: Files + Eprint>(rt: &R, temporary: &str, path: &str) -> io::Result<()> {
     match fs::rename(rt, temporary, path) {
         Ok(()) => Ok(()),
@@ -40,7 +40,7 @@ fn put_in_place<R: Files + Eprint>(rt: &R, temporary: &str, path: &str) -> io::R
     }
 }
 
-// Why what is there isn't replaced; none of a regular file, which is.
+// The reason not to replace what is at a path; none for a regular file, which is replaced.
 fn obstacle(found: &Metadata) -> Option<&'static str> {
     if found.is_file() {
         None
@@ -53,7 +53,7 @@ fn obstacle(found: &Metadata) -> Option<&'static str> {
     }
 }
 
-// Refuses a path at which something is that no file may take the place of.
+// Refuses a path at which there is something that no file may replace.
 fn may_replace<R: Files + Eprint>(rt: &R, path: &str) -> io::Result<()> {
     match fs::symlink_metadata(rt, path) {
         Ok(found) => match obstacle(&found) {
@@ -63,12 +63,12 @@ fn may_replace<R: Files + Eprint>(rt: &R, path: &str) -> io::Result<()> {
             }
             None => Ok(()),
         },
-        // Nothing is there, or the folder isn't, which making the file will tell.
+        // Nothing is there, or its folder isn't, which making the file will report.
         Err(_) => Ok(()),
     }
 }
 
-// Says why a new file wasn't written. What was written of it is removed, and one that was there is somebody else's.
+// Reports why a new file wasn't written. A partly written file is removed; one that was there before is somebody else's.
 fn give_up<R: Files + Eprint>(rt: &R, temporary: &str, path: &str, error: &io::Error) {
     if error.kind() == ErrorKind::AlreadyExists {
         say(
@@ -82,7 +82,7 @@ fn give_up<R: Files + Eprint>(rt: &R, temporary: &str, path: &str, error: &io::E
     }
 }
 
-// Writes a file as a whole or not at all: by a file of this name with `.new` after it, which may not be there yet.
+// Writes a file as a whole or not at all, by way of a file with `.new` after its name, which may not exist yet.
 fn write_whole<R: Files + Eprint + AllocGlobal>(
     rt: &R,
     path: &str,
@@ -100,7 +100,7 @@ fn write_whole<R: Files + Eprint + AllocGlobal>(
     }
 }
 
-// Stores the image of a table, for which this is printed then.
+// Stores the image of a table, and returns the output for it.
 fn store<R: Files + Eprint + AllocGlobal>(
     rt: &R,
     table: &Table,
@@ -139,8 +139,8 @@ fn store_folder<R: Files + Eprint + AllocGlobal>(
     }
 }
 
-/// What is printed once the image of a folder was stored: what a check of the folder prints. The image is stored in spite of faults. If
-/// it can't be, nothing is left of it, and that is what is printed.
+/// Stores the image of a folder, and returns the output of the folder's check. The image is stored in spite of faults. If
+/// it can't be, nothing is left of it, and the output reports that.
 pub fn compile_dir<R: Files + Eprint + AllocGlobal + Clone + Drop>(
     rt: &R,
     dir: &str,
@@ -185,7 +185,7 @@ fn bundle_of(alloc: Global, folder: &Folder) -> Result<Vec<u8>, AllocError> {
     Ok(text)
 }
 
-// Whether files are compiled to a table with this image.
+// Whether files compile to a table with this image.
 #[tactic(auto, using(crate::proofs::Stored::same_image, crate::proofs::Stored::refused))]
 fn define_image(alloc: Global, folder: &Folder, image: &[u8]) -> Result<bool, AllocError>
     ensures { IfOk result (λ define. Decides define (DefinesImage folder.now image.now)) }
@@ -203,8 +203,8 @@ fn define_image(alloc: Global, folder: &Folder, image: &[u8]) -> Result<bool, Al
     }
 }
 
-/// Whether files define the jobs of a table: then they have the image that is written of it, whatever the version of the one that it was
-/// read from.
+/// Whether files define the jobs of a table: then they have the image that is written of it, whatever the version of the image that it
+/// was read from.
 pub(crate) fn define_table(
     alloc: Global,
     folder: &Folder,
@@ -219,7 +219,7 @@ pub(crate) fn define_table(
     Ok(define)
 }
 
-// Whether a bundle is no longer than one may be, and its files do.
+// Whether a bundle isn't too long, and its files define the jobs of a table.
 fn defines(alloc: Global, bundle: &[u8], table: &Table) -> Result<bool, AllocError>
     ensures { IfOk result (λ define. Decides define (DefinesAll bundle.now table.now)) }
 {
@@ -230,7 +230,7 @@ fn defines(alloc: Global, bundle: &[u8], table: &Table) -> Result<bool, AllocErr
     define_table(alloc, &bundle.folder, table)
 }
 
-/// What is printed for an image whose jobs can't be printed as job files, so that they define it again.
+/// The output for an image whose jobs can't be printed as job files that define it again.
 pub(crate) fn no_files<R: Eprint + AllocGlobal>(rt: &R, image: &str) -> Result<Printed, AllocError>
     ensures { IfOk result (IsUnusable image.now) }
 {
@@ -250,8 +250,8 @@ fn bundle_if(alloc: Global, bundle: Vec<u8>, table: &Table) -> Result<Option<Vec
     }
 }
 
-/// The job files that define the jobs of a table, as the files of a bundle. They are compiled again: none if that doesn't give the table, as
-/// of a job with a line `%script` in its script.
+/// The job files that define the jobs of a table, as the files of a bundle. They are compiled again: none if the result isn't the table, as
+/// for a job with a line `%script` in its script.
 pub fn bundle_files(alloc: Global, table: &Table) -> Result<Option<Vec<u8>>, AllocError>
     ensures { IfOk result (λ made. IfSome made (λ text. DefinesAll text.items table.now)) }
 {
@@ -260,7 +260,7 @@ pub fn bundle_files(alloc: Global, table: &Table) -> Result<Option<Vec<u8>>, All
     bundle_if(alloc, bundle, table)
 }
 
-// What is printed for the table of an image, in the file with this path.
+// The output for the table of an image. `image` is its file's path.
 fn show_table<R: Eprint + AllocGlobal>(
     rt: &R,
     table: &Table,
@@ -280,7 +280,7 @@ fn show_table<R: Eprint + AllocGlobal>(
     }
 }
 
-// What is printed for the bytes of an image, in the file with this path.
+// The output for the bytes of an image. `image` is its file's path.
 #[tactic(auto, using(crate::proofs::Stored::read_is))]
 fn show_bytes<R: Eprint + AllocGlobal>(
     rt: &R,
@@ -296,7 +296,7 @@ fn show_bytes<R: Eprint + AllocGlobal>(
     }
 }
 
-/// What is printed for an image: the files that define its jobs, as a bundle. They are compiled again, and printed only if that gives
+/// The output for an image: the files that define its jobs, as a bundle. They are compiled again, and printed only if the result is
 /// its table.
 pub fn show_image<R: Files + Eprint + AllocGlobal>(
     rt: &R,

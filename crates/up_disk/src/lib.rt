@@ -1,4 +1,4 @@
-//! What lies on the disk: folders of job files, scripts and images, and what is printed of them.
+//! Files on the disk: folders of job files, scripts and images, and the output for them.
 #![tactic(auto)]
 
 pub mod disk;

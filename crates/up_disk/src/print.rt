@@ -8,8 +8,8 @@ use std::io::{BufWriter, Write};
 use up_model::ExitStatus;
 use up_print::{Printed, write_printed};
 
-/// Prints on standard output, and returns the status: `Unusable` if it can't be written, `Memory` if there was none for what is printed.
-/// An error is that of the standard output, or memory ran out for its buffer.
+/// Prints on standard output, and returns the status: `Unusable` if it can't be written, `Memory` if out of memory for the output.
+/// An error is that of standard output, or out of memory for its buffer.
 pub fn print(
     rt: &(impl Print + AllocGlobal),
     made: Result<Printed, AllocError>,

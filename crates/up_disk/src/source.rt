@@ -13,7 +13,7 @@ use up_image::{ImageError, Table, job_files};
 use up_print::{Printed, cannot_use, image_refused};
 use up_text::Env;
 
-// What a script does to the jobs of an image, by files that are to define them.
+// The output of a replay over the jobs of an image, by files that are to define them.
 fn replay_files<R: Files + Eprint + AllocGlobal>(
     rt: &R,
     folder: &Folder,
@@ -37,7 +37,7 @@ fn replay_files<R: Files + Eprint + AllocGlobal>(
     }
 }
 
-// What a script does to the jobs of an image.
+// The output of a replay over the jobs of an image.
 fn replay_table<R: Files + Eprint + AllocGlobal>(
     rt: &R,
     table: &Table,
@@ -60,7 +60,7 @@ fn replay_table<R: Files + Eprint + AllocGlobal>(
     }
 }
 
-// What a script does to the jobs that the bytes of an image say.
+// The output of a replay over the jobs in the bytes of an image.
 #[tactic(auto, using(crate::proofs::Stored::read_is))]
 fn replay_bytes<R: Files + Eprint + AllocGlobal>(
     rt: &R,
@@ -88,7 +88,7 @@ fn replay_bytes<R: Files + Eprint + AllocGlobal>(
     }
 }
 
-/// What a replay of a script over an image prints, if each process gets the base environment: that over files that define its jobs.
+/// The output of a replay of a script over an image, by files that define its jobs; each process gets the base environment.
 pub fn replay_image<R: Files + Eprint + AllocGlobal>(
     rt: &R,
     image: &str,
@@ -114,7 +114,7 @@ pub fn replay_image<R: Files + Eprint + AllocGlobal>(
     }
 }
 
-/// What a replay of a script prints over what the path names: an image if it is a file, and else a folder.
+/// The output of a replay of a script over a path: an image if it is a file, and else a folder.
 pub fn replay_source<R: Files + Eprint + AllocGlobal + Clone + Drop>(
     rt: &R,
     source: &str,

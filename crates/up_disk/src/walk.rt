@@ -14,33 +14,33 @@ use up_conf::{Folder, job_name, overridden_name};
 use up_print::{Printed, cannot_use};
 use up_text::{Items, Text};
 
-/// How many folders may lie in one another below the first.
+/// The maximum depth of nested folders below the first.
 const MAX_DEPTH: u32 = 64;
 
-/// How many files and folders a folder may have, with those of its subfolders.
+/// The maximum number of files and folders in a folder, with those of its subfolders.
 const MAX_ENTRIES: usize = 65_536;
 
-/// One byte more than a job file has, by which its reader sees that it is too long.
+/// One byte more than the maximum size of a job file, by which its reader sees that it is too long.
 const MAX_READ: usize = 1_048_577;
 
-/// Why a job file isn't read that is there.
+/// Why an existing job file isn't read.
 const NO_FILE: &str = "it is called as a job file, and is no regular file";
 
 /// Why a folder isn't read with its subfolders.
 const TOO_DEEP: &str = "a folder in it lies more than 64 levels deep";
 
-/// Why a folder isn't read with all that it has.
+/// Why a folder isn't read with all its entries.
 const TOO_MANY: &str = "it has more than 65536 entries, with those of its subfolders";
 
-/// What is said of a folder with an entry whose name is no text.
+/// The report about a folder with an entry whose name isn't text.
 const NO_TEXT: &str = "an entry in it is passed over, whose name isn't UTF-8";
 
 /// Why a folder isn't read.
 #[derive(Debug, Drop)]
 pub enum WalkError {
-    /// What has this path can't be listed, or not be read whole.
+    /// This path can't be listed, or not be read in full.
     Unusable(Text),
-    /// Memory was refused.
+    /// Out of memory.
     Memory,
 }
 
@@ -55,7 +55,7 @@ impl From<AllocError> for WalkError {
     }
 }
 
-/// What is printed of a folder that isn't read.
+/// The output for a folder that can't be read.
 pub fn cannot_walk(alloc: Global, error: &WalkError) -> Result<Printed, AllocError>
     ensures { IfOk result (λ made. (dir : List ℕ) → MayFail dir error.now → CannotWalk dir made) }
 {
@@ -68,12 +68,12 @@ pub fn cannot_walk(alloc: Global, error: &WalkError) -> Result<Printed, AllocErr
 // A folder that is still to be listed.
 #[derive(Drop)]
 struct Level {
-    // Its path below the first folder, with a slash after it; nothing for the first folder.
+    // Its path below the first folder, with a slash after it; empty for the first folder.
     path: String,
     depth: u32,
 }
 
-// What was found so far.
+// The files and folders found so far.
 #[derive(Drop)]
 struct Found {
     folder: Folder,
@@ -81,7 +81,7 @@ struct Found {
     entries: usize,
 }
 
-// Why what has this path can't be used.
+// The error for a path that can't be used.
 fn unusable(alloc: Global, path: &str) -> WalkError
     ensures { Names path.now result }
 {
@@ -91,7 +91,7 @@ fn unusable(alloc: Global, path: &str) -> WalkError
     }
 }
 
-// The same, once it is said why.
+// The same, after the reason is reported.
 fn unusable_since<R: Eprint + AllocGlobal>(rt: &R, path: &str, why: &str) -> WalkError
     ensures { Names path.now result }
 {
@@ -99,7 +99,7 @@ fn unusable_since<R: Eprint + AllocGlobal>(rt: &R, path: &str, why: &str) -> Wal
     unusable(rt.alloc(), path)
 }
 
-// What an error of the system at `place` says of this path.
+// The error for this path after an error of the system at `place`.
 fn refused<R: Eprint + AllocGlobal>(rt: &R, error: io::Error, place: &str, path: &str) -> WalkError
     ensures named { Names path.now result }
     ensures memory { error_kind error ≡ ErrorKind.OutOfMemory → result ≡ WalkError.Memory }
@@ -112,14 +112,14 @@ fn refused<R: Eprint + AllocGlobal>(rt: &R, error: io::Error, place: &str, path:
     }
 }
 
-// Whether a path stands for a job or an override.
+// Whether a path is that of a job or an override.
 fn is_source(path: &str) -> bool
     ensures { result ≡ is_source path.now }
 {
     job_name(path).is_some() || overridden_name(path).is_some()
 }
 
-// The path of what lies in a folder.
+// The path of an entry of a folder.
 fn path_below(alloc: Global, dir: &str, path: &str) -> Result<String, AllocError>
     ensures { IfOk result (λ whole. string_bytes whole ≡ path_in dir.now path.now) }
 {
@@ -131,7 +131,7 @@ fn path_below(alloc: Global, dir: &str, path: &str) -> Result<String, AllocError
     Ok(whole)
 }
 
-/// The bytes of a file, but no more than `most`.
+/// The bytes of a file, at most `most`.
 pub fn read_file<R: Files + AllocGlobal>(rt: &R, path: &str, most: usize) -> io::Result<Vec<u8>>
     ensures { IfOk result (λ bytes. length bytes.items ≤ most) }
 {
@@ -142,7 +142,7 @@ pub fn read_file<R: Files + AllocGlobal>(rt: &R, path: &str, most: usize) -> io:
     Ok(bytes)
 }
 
-// Whether what has this path leads through too many links by itself, and not by the path of its folder.
+// Whether this path leads through too many links by itself, and not by the path of its folder.
 fn is_link_to_itself<R: Files + AllocGlobal>(rt: &R, whole: &str) -> bool {
     let Some((folder, name)) = whole.rsplit_once('/') else {
         return false;
@@ -160,7 +160,7 @@ fn is_link_to_itself<R: Files + AllocGlobal>(rt: &R, whole: &str) -> bool {
     }
 }
 
-// Whether an error isn't that of one file that could be passed over: memory ran out, or too many links were met since a folder lies in itself.
+// Whether an error isn't that of one file that could be passed over: out of memory, or too many links since a folder contains itself.
 fn is_of_folder<R: Files + AllocGlobal>(rt: &R, error: &io::Error, whole: &str) -> bool {
     match error.kind() {
         ErrorKind::OutOfMemory => true,
@@ -169,7 +169,7 @@ fn is_of_folder<R: Files + AllocGlobal>(rt: &R, error: &io::Error, whole: &str) 
     }
 }
 
-// The bytes of a job file; none of another file. A pipe or a device is no file that could be read whole.
+// The bytes of a job file; none for another file. A pipe or a device can't be read as a whole.
 fn read_source<R: Files + Eprint + AllocGlobal>(
     rt: &R,
     whole: &str,
@@ -195,7 +195,7 @@ fn read_source<R: Files + Eprint + AllocGlobal>(
 }
 
 impl Found {
-    // Keeps a file that stands for a job or an override.
+    // Keeps a file if it is a job or an override.
     fn take_file<R: Files + Eprint + AllocGlobal>(
         &mut self,
         rt: &R,
@@ -217,7 +217,7 @@ impl Found {
         Ok(())
     }
 
-    // Keeps a folder to be listed, unless it lies too deep.
+    // Keeps a folder to be listed, unless it is too deep.
     fn take_folder<R: Eprint + AllocGlobal>(
         &mut self,
         rt: &R,
@@ -244,7 +244,7 @@ impl Found {
         Ok(())
     }
 
-    // Takes what has this path below the folder, in a folder that lies so deep.
+    // Takes the entry at this path below the folder, in a folder of this depth.
     fn take_path<R: Files + Eprint + AllocGlobal>(
         &mut self,
         rt: &R,
@@ -268,12 +268,12 @@ impl Found {
             Err(error) if is_of_folder(rt, &error, whole.as_str()) => {
                 Err(refused(rt, error, whole.as_str(), dir))
             }
-            // By its name no job file: a link to nothing or to itself, what may not be looked at, or what went meanwhile.
+            // By its name no job file: a link to nothing or to itself, an entry that may not be looked at, or one that went meanwhile.
             Err(_) => Ok(()),
         }
     }
 
-    // Takes what has this name in a folder.
+    // Takes the entry of this name in a folder.
     fn take_entry<R: Files + Eprint + AllocGlobal>(
         &mut self,
         rt: &R,
@@ -301,7 +301,7 @@ impl Found {
         Ok(())
     }
 
-    // Passes over an entry of a folder whose name is no text, of which the system's list says no more. It counts as one.
+    // Passes over an entry of a folder whose name isn't text, of which the system's list reports no more. It counts as one.
     fn pass_over<R: Eprint + AllocGlobal>(
         &mut self,
         rt: &R,
@@ -320,7 +320,6 @@ impl Found {
         Ok(())
     }
 
-    // Takes all that a folder has.
     fn list<R: Files + Eprint + AllocGlobal + Clone + Drop>(
         &mut self,
         rt: &R,
@@ -350,7 +349,7 @@ impl Found {
 }
 
 /// Reads the job files and overrides of a folder and of its subfolders. Symbolic links are followed. A folder that can't be listed, that
-/// has too many entries or too deep a subfolder, makes `dir` unusable. An entry whose name is no text is passed over, and that is said.
+/// has too many entries or too deep a subfolder, makes `dir` unusable. An entry whose name isn't text is passed over, and reported.
 pub fn walk<R: Files + Eprint + AllocGlobal + Clone + Drop>(
     rt: &R,
     dir: &str,
@@ -358,7 +357,7 @@ pub fn walk<R: Files + Eprint + AllocGlobal + Clone + Drop>(
     ensures walked { IfOk result IsWalked }
     ensures refused { IfErr result (MayFail dir.now) }
 {
-    // No path names no folder; joined with a slash it would be the root.
+    // An empty path names no folder; joined with a slash it would be the root.
     if dir.is_empty() {
         return Err(unusable_since(rt, dir, "an empty path names no folder"));
     }

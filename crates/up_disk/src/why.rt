@@ -1,8 +1,8 @@
-//! Says on standard error why something can't be used. The line for it on standard output names it alone.
+//! Reports on standard error why something can't be used. The line for it on standard output only names it.
 use std::io::{Eprint, ErrorKind};
 use std::{fmt, io};
 
-/// Says why what has this path can't be used. If that can't be written nothing else changes.
+/// Reports why this path can't be used. If that can't be written nothing else changes.
 pub fn say<R: Eprint>(rt: &R, path: &str, why: &str) {
     let _ = eprintln!(rt; "initd: {path}: {why}");
 }
@@ -28,7 +28,7 @@ fn words_of(kind: ErrorKind) -> Option<&'static str> {
     }
 }
 
-/// Why the system refused something, in its own words; with the number of the error if it is a rare one.
+/// Why the system refused something, in its own words; for a rare error, with its number.
 #[derive(Clone, Copy, Drop)]
 pub struct Reason(pub io::Error);
 
@@ -41,7 +41,6 @@ impl fmt::Display for Reason {
     }
 }
 
-/// Says why the system refused something with this path.
 pub fn say_error<R: Eprint>(rt: &R, path: &str, error: &io::Error) {
     let reason = Reason(*error);
     let _ = eprintln!(rt; "initd: {path}: {reason}");

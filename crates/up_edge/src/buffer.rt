@@ -3,7 +3,7 @@ ghost use Rattle.std.specs.Prelude.{◌≡◌, ◌≤◌, ◌++◌, length, take
 
 use std::alloc::{AllocError, Global};
 
-/// Puts the bytes at the buffer's beginning.
+/// Copies the bytes to the start of the buffer.
 pub(crate) fn fill(buffer: &mut [u8], bytes: &[u8])
     requires { length bytes.now ≤ length buffer.old }
     ensures { take (length bytes.now) buffer.new ≡ bytes.now }
@@ -11,7 +11,6 @@ pub(crate) fn fill(buffer: &mut [u8], bytes: &[u8])
     buffer[..bytes.len()].copy_from_slice(bytes);
 }
 
-/// So many bytes of 0.
 pub(crate) fn zeros(alloc: Global, count: usize) -> Result<Vec<u8>, AllocError>
     ensures { IfOk result (λ bytes. length bytes.items ≡ count) }
 {
@@ -19,7 +18,6 @@ pub(crate) fn zeros(alloc: Global, count: usize) -> Result<Vec<u8>, AllocError>
     Ok(bytes)
 }
 
-/// Bytes of their own.
 pub(crate) fn copy_of(alloc: Global, bytes: &[u8]) -> Result<Vec<u8>, AllocError>
     ensures { IfOk result (λ copied. copied.items ≡ bytes.now) }
 {

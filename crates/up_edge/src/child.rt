@@ -9,10 +9,10 @@ use std::os::unix::process::ExitStatusExt;
 use std::process::{Child, ExitStatus, OpenProcess};
 use up_model::{How, Process, Who};
 
-/// How many children a look is at, if there are so many.
+/// The minimum number of children that a look covers, if there are that many.
 const LEAST_LOOKS: usize = 16;
 
-/// How many looks are at all children, if there are more.
+/// The number of looks that cover all children, if there are more.
 const PARTS: usize = 6;
 
 /// A process that was started and whose end was not reported.
@@ -25,13 +25,13 @@ pub(crate) struct Running<P: OpenProcess> {
     pub child: Child<P>,
 }
 
-/// What a look at the children found.
+/// The outcome of a look at the children.
 pub(crate) enum Look {
-    /// The child at the place of the next look has ended so.
+    /// The child at the place of the next look has ended this way.
     Ended(How),
     /// No child that was looked at has ended.
     Nothing,
-    /// The system refused to tell of a child.
+    /// The system refused to report about a child.
     Failed,
 }
 
@@ -42,7 +42,7 @@ fn byte_of(number: i32) -> u8
     u8::try_from(number).unwrap_or(0)
 }
 
-/// How a process ended: by the code of its exit, or by a signal, of which an unknown one is 0.
+/// How a process ended: by the code of its exit, or by a signal; an unknown signal is 0.
 pub(crate) fn end_of(status: &ExitStatus) -> How
     ensures { result ≡ end_of status.now }
 {
@@ -55,15 +55,15 @@ pub(crate) fn end_of(status: &ExitStatus) -> How
     }
 }
 
-// The place before which a look ends that begins here: it is at a sixth of the children, but at 16 at least.
+// The end of a look that begins at `next`, exclusive: it covers a sixth of the children, but 16 at least.
 fn look_end(count: usize, next: usize) -> usize
     ensures { next < 18446744073709551615 → next < result }
 {
     next.saturating_add(LEAST_LOOKS.max(count.div_ceil(PARTS)))
 }
 
-/// Looks at some of the children from `next` on, up to one that has ended; the next look goes on from there, and after the last child from
-/// the first. So one that ends is found by the sixth look at the latest, and a look takes little time even among many.
+/// Looks at some of the children from `next` on, up to one that has ended; the next look continues from there, and after the last child
+/// from the first. So one that ends is found by the sixth look at the latest, and a look takes little time even among many.
 pub(crate) fn find_end<P: OpenProcess>(children: &mut [Running<P>], next: &mut usize) -> Look
     ensures { LooksOn result next.old next.new (length children.old) }
 {
@@ -84,7 +84,7 @@ pub(crate) fn find_end<P: OpenProcess>(children: &mut [Running<P>], next: &mut u
     Look::Nothing
 }
 
-/// Lets go of the helpers that have ended.
+/// Drops the helpers that have ended.
 pub(crate) fn reap<P: OpenProcess + Drop>(helpers: &mut Vec<Child<P>>) {
     let mut place = 0;
     while place < helpers.len() {
@@ -95,7 +95,6 @@ pub(crate) fn reap<P: OpenProcess + Drop>(helpers: &mut Vec<Child<P>>) {
     }
 }
 
-// Whether both are the same instance of a job.
 fn is_same(one: &Who, other: &Who) -> bool
     ensures same { OnTrue result (one.now ≡ other.now) }
     ensures differs { one.now ≡ other.now → result ≡ true }
@@ -103,7 +102,6 @@ fn is_same(one: &Who, other: &Who) -> bool
     one.job.as_str() == other.job.as_str() && one.instance.is(other.instance.as_str())
 }
 
-/// The place of the child with this name and number.
 pub(crate) fn place_of<P: OpenProcess>(
     children: &[Running<P>],
     who: &Who,

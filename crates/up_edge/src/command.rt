@@ -9,7 +9,6 @@ use std::process::{Command, Stdio};
 use up_model::Order;
 use up_text::{Env, Text};
 
-// The words after the program's name.
 fn add_words(command: &mut Command, words: &[Text]) -> Result<(), AllocError>
     ensures words { OnOk result (command_args command.new ≡ command_args command.old ++ words.now) }
     ensures program { OnOk result (command_program command.new ≡ command_program command.old) }
@@ -31,7 +30,7 @@ fn set_var(command: &mut Command, key: &str, value: &str) -> Result<(), AllocErr
     Ok(())
 }
 
-// The pairs, and no variable beside them. A key that is there twice keeps its first value, so the last pair is set first.
+// Sets the pairs, and no other variable. A key that occurs twice keeps its first value, so the last pair is set first.
 fn set_env(command: &mut Command, env: &Env) -> Result<(), AllocError>
     ensures env { OnOk result (HasEnv command.new env.now) }
     ensures words { OnOk result (SameProgramAndArgs command.old command.new) }
@@ -47,7 +46,7 @@ fn set_env(command: &mut Command, env: &Env) -> Result<(), AllocError>
     Ok(())
 }
 
-// Standard input is the null device, and so is the output of a silent process; any other has the daemon's own.
+// Standard input is the null device, and so is the output of a silent process; other processes inherit the daemon's output.
 fn set_streams(command: &mut Command, silent: bool)
     ensures env { SameEnv command.old command.new }
     ensures words { SameProgramAndArgs command.old command.new }
@@ -60,7 +59,7 @@ fn set_streams(command: &mut Command, silent: bool)
     }
 }
 
-// All of an order's command but its program.
+// All of an order's command except its program.
 fn fill(command: &mut Command, words: &[Text], order: &Order) -> Result<(), AllocError>
     ensures words { OnOk result (command_args command.new ≡ command_args command.old ++ words.now) }
     ensures program { OnOk result (command_program command.new ≡ command_program command.old) }
@@ -74,7 +73,7 @@ fn fill(command: &mut Command, words: &[Text], order: &Order) -> Result<(), Allo
     Ok(())
 }
 
-/// The command of an order. An order without words has none.
+/// The command of an order; none for an order without words.
 pub(crate) fn command_of(alloc: Global, order: &Order) -> Result<Option<Command>, AllocError>
     ensures { IfOk result (λ found. MatchOption found (order.now.argv ≡ []) (λ command. IsCommandOf order.now command)) }
 {
@@ -91,7 +90,7 @@ pub(crate) fn command_of(alloc: Global, order: &Order) -> Result<Option<Command>
     }
 }
 
-// The words by which a shell sends a signal by its name (kill(1)), without any output.
+// The arguments with which a shell sends a signal by its name (kill(1)), without any output.
 fn fill_kill(alloc: Global, command: &mut Command, name: &str, pid: u32) -> Result<(), AllocError>
     ensures words { OnOk result (command_args command.new ≡ command_args command.old ++ kill_words name.now pid) }
     ensures program { OnOk result (command_program command.new ≡ command_program command.old) }

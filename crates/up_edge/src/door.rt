@@ -1,4 +1,4 @@
-//! What a door promises of each call.
+//! The contract of a door's calls.
 ghost use Rattle.std.specs.Prelude.{◌≡◌, ◌≤◌, ℕ, Bool, length, take, option_map, IfOk, IfSome};
 ghost use Rattle.up_edge.specs.Calls.{Calls, Reports, emptied};
 ghost use Rattle.up_edge.specs.Connecting.{ConnectsOnAccept, Disconnects, SameClients};
@@ -19,32 +19,31 @@ pub trait Door {
     /// Whether a client with this number is connected.
     ghost connected: { Self → ℕ → Bool };
 
-    /// The number of a client that waited to be let in, if there is one. The number is that of no client that is connected.
+    /// The number of a client that waited to be let in, if any. No connected client has that number.
     fn accept(&mut self) -> Result<Option<u32>, DoorFault>
         ensures reports { Reports Accepted (calls self.old) result (calls self.new) }
         ensures connects { ConnectsOnAccept (connected self.old) result (connected self.new) };
 
-    /// How many bytes of the client were put at the buffer's beginning; `None` if none is there yet, and 0 if it sends no more, or the
-    /// door hears it no more.
+    /// How many of the client's bytes were put at the start of the buffer; `None` if none has come yet, and 0 if it sends no more, or
+    /// the door reads it no more.
     fn read(&mut self, client: u32, buffer: &mut [u8]) -> Result<Option<usize>, DoorFault>
         ensures reports { Reports (λ found. Read client (option_map (λ count. take count buffer.new) found))
             (calls self.old) result (calls self.new) }
         ensures within { IfOk result (λ found. IfSome found (λ count. count ≤ length buffer.new)) }
         ensures connects { SameClients (connected self.old) (connected self.new) };
 
-    /// How many of the bytes were taken for the client, from the first on; 0 if it takes none now.
+    /// The number of bytes that were taken for the client, from the first on; 0 if it takes none now.
     fn write(&mut self, client: u32, bytes: &[u8]) -> Result<usize, DoorFault>
         ensures reports { Reports (λ count. Wrote client (take count bytes.now)) (calls self.old) result
             (calls self.new) }
         ensures within { IfOk result (λ count. count ≤ length bytes.now) }
         ensures connects { SameClients (connected self.old) (connected self.new) };
 
-    /// Closes the client, always. Without room for its entry the record leaves it out, and a fault is counted.
+    /// Closes the client, in any case. Without room for its entry the record leaves it out, and a fault is counted.
     fn close(&mut self, client: u32)
         ensures reports { ReportsClose client (calls self.old) (calls self.new) }
         ensures connects { Disconnects client (connected self.old) (connected self.new) };
 
-    /// How many calls have failed.
     fn faults(&self) -> u64
         ensures { result ≡ (calls self.now).faults };
 
@@ -52,7 +51,6 @@ pub trait Door {
     fn happened(&self) -> &[Passed]
         ensures { result.now ≡ (calls self.now).entries };
 
-    /// Empties the record.
     fn clear_record(&mut self)
         ensures reports { calls self.new ≡ emptied (calls self.old) }
         ensures connects { SameClients (connected self.old) (connected self.new) };

@@ -3,7 +3,7 @@ ghost use Rattle.std.specs.Prelude.{◌≡◌};
 
 use thiserror::Error;
 
-/// The system refused a call of a door, or no memory was left for it. The door counted the fault.
+/// The system refused a call of a door, or it ran out of memory. The door counted the fault.
 #[derive(Clone, Copy, Debug, PartialEq, Eq, Error)]
 #[error("DoorFault")]
 pub struct DoorFault;

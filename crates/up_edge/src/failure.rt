@@ -3,7 +3,7 @@ ghost use Rattle.std.specs.Prelude.{◌≡◌, ◌+◌, ◌==◌, nat_le, min};
 ghost use Rattle.std.specs.List.{list_any};
 ghost use Rattle.up_edge.specs.Failing.{is_failing, fails, call_after};
 
-/// Calls that fail, by their number, counted from 0 on.
+/// Calls that fail, by their number, counted from 0.
 #[derive(Clone, Copy, Debug)]
 pub enum Failure {
     /// This call alone.
@@ -20,7 +20,6 @@ pub struct Failures {
 }
 
 impl Failure {
-    /// Whether the call with this number fails.
     pub fn is_failing(self, call: u64) -> bool
         ensures { result ≡ is_failing self call }
     {
@@ -32,7 +31,7 @@ impl Failure {
 }
 
 impl Failures {
-    /// These calls fail, and none was made.
+    /// These calls fail; none was made yet.
     pub fn new(failures: Vec<Failure>) -> Self
         ensures failures { result.failures.items ≡ failures.items }
         ensures call { result.call ≡ 0 }

@@ -1,10 +1,10 @@
-//! What a host's record tells.
+//! The entries of a host's record.
 use up_model::{How, Order, Process, Who};
 
 /// One call of a host that succeeded, with its arguments and its answer.
 #[derive(Drop)]
 pub enum Happened {
-    /// The order's process was started under this number.
+    /// The order's process was started with this process number.
     Spawned(Order, u32),
     /// The end that was found, if there was one.
     Polled(Option<(Who, Process, How)>),

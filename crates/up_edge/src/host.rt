@@ -1,4 +1,4 @@
-//! What a host promises of each call.
+//! The contract of a host's calls.
 ghost use Rattle.std.specs.Prelude.{◌≡◌, ℕ};
 ghost use Rattle.up_edge.specs.Calls.{Calls, Reports, emptied};
 ghost use Rattle.up_edge.specs.Living.{LivesAfterSpawn, LivesAfterPoll};
@@ -19,7 +19,7 @@ pub trait Host {
     /// How many processes were spawned whose end was not reported.
     ghost living: { Self → ℕ };
 
-    /// Starts a process, whose number is returned.
+    /// Starts a process, and returns its process number.
     fn spawn(&mut self, order: &Order) -> Result<u32, HostFault>
         ensures reports { Reports (λ pid. Spawned order.now pid) (calls self.old) result (calls self.new) }
         ensures lives { LivesAfterSpawn (living self.old) result (living self.new) };
@@ -29,7 +29,6 @@ pub trait Host {
         ensures reports { Reports Polled (calls self.old) result (calls self.new) }
         ensures lives { LivesAfterPoll (living self.old) result (living self.new) };
 
-    /// Sends a signal to a process.
     fn signal(&mut self, who: &Who, pid: u32, signal: u8) -> Result<(), HostFault>
         ensures reports { Reports (λ _. Signalled who.now pid signal) (calls self.old) result
             (calls self.new) }
@@ -40,7 +39,6 @@ pub trait Host {
         ensures reports { Reports Now (calls self.old) result (calls self.new) }
         ensures lives { living self.new ≡ living self.old };
 
-    /// How many calls have failed.
     fn faults(&self) -> u64
         ensures { result ≡ (calls self.now).faults };
 
@@ -48,7 +46,6 @@ pub trait Host {
     fn happened(&self) -> &[Happened]
         ensures { result.now ≡ (calls self.now).entries };
 
-    /// Empties the record.
     fn clear_record(&mut self)
         ensures reports { calls self.new ≡ emptied (calls self.old) }
         ensures lives { living self.new ≡ living self.old };

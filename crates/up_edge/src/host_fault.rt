@@ -3,7 +3,7 @@ ghost use Rattle.std.specs.Prelude.{◌≡◌};
 
 use thiserror::Error;
 
-/// The system refused a call of a host, or no memory was left for it. The host counted the fault.
+/// The system refused a call of a host, or it ran out of memory. The host counted the fault.
 #[derive(Clone, Copy, Debug, PartialEq, Eq, Error)]
 #[error("HostFault")]
 pub struct HostFault;

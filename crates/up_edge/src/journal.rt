@@ -10,13 +10,12 @@ use std::alloc::Global;
 #[derive(Drop)]
 pub struct Journal<T> {
     entries: Vec<T>,
-    // how many entries the record had when it was emptied, all in all
+    // the total number of entries that were removed when the record was emptied
     cleared: u64,
     faults: u64,
 }
 
 impl<T> Journal<T> {
-    /// An empty record, and no fault.
     pub fn new(alloc: Global) -> Self
         ensures calls { calls_of result ≡ no_calls }
     {
@@ -27,7 +26,7 @@ impl<T> Journal<T> {
         }
     }
 
-    /// Whether there is room for one entry more, which is taken if it is missing.
+    /// Reserves room for one more entry. False if out of memory.
     pub fn make_room(&mut self) -> bool
         ensures room { OnTrue result (HasRoom self.new) }
         ensures full { OnFalse result (room self.old ≡ 0) }
@@ -39,7 +38,7 @@ impl<T> Journal<T> {
         }
     }
 
-    /// Adds the entry of a call that succeeded. The room was taken before the call acted.
+    /// Adds the entry of a call that succeeded. Its room was reserved before the call acted.
     pub fn add(&mut self, entry: T)
     where
         T: Drop,
@@ -52,7 +51,6 @@ impl<T> Journal<T> {
         }
     }
 
-    /// Counts a call that failed.
     pub fn count_fault(&mut self)
         ensures calls { calls_of self.new ≡ with_failure (calls_of self.old) }
     {
@@ -66,7 +64,6 @@ impl<T> Journal<T> {
         self.entries.as_slice()
     }
 
-    /// How many calls failed.
     pub fn faults(&self) -> u64
         ensures { result ≡ (calls_of self.now).faults }
     {
@@ -74,7 +71,7 @@ impl<T> Journal<T> {
         faults
     }
 
-    /// Empties the record and keeps its room.
+    /// Empties the record and keeps its memory.
     pub fn clear(&mut self)
     where
         T: Drop,

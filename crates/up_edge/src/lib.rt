@@ -1,8 +1,8 @@
-//! The edge: what touches the system, and scripts that stand in for it.
+//! The edge: access to the system, and scripts that replace it.
 //!
-//! [`Host`] says what a host of processes promises, [`RealHost`] starts real ones, and [`ScriptHost`] plays a script. [`Door`] says what a
-//! door to clients promises, [`UnixDoor`] is one over a socket, and [`ScriptDoor`] plays a script. [`Source`] says what a source of
-//! configurations promises, and [`ScriptSource`] plays a script.
+//! [`Host`] is the contract of a host of processes, [`RealHost`] starts real ones, and [`ScriptHost`] plays a script. [`Door`] is the
+//! contract of a door to clients, [`UnixDoor`] is one over a socket, and [`ScriptDoor`] plays a script. [`Source`] is the contract of a
+//! source of configurations, and [`ScriptSource`] plays a script.
 #![tactic(auto)]
 
 mod buffer;

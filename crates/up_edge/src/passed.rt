@@ -1,4 +1,4 @@
-//! What a door's record tells.
+//! The entries of a door's record.
 use up_text::Items;
 
 /// One call of a door that succeeded, with its arguments and its answer.
@@ -6,7 +6,7 @@ use up_text::Items;
 pub enum Passed {
     /// The client that was accepted, if one waited.
     Accepted(Option<u32>),
-    /// The bytes that were read from the client, if it sent any; no bytes are the end of what it sends.
+    /// The bytes that were read from the client, if it sent any; an empty piece means that it sends no more.
     Read(u32, Option<Items<u8>>),
     /// The bytes that were taken from the caller for the client.
     Wrote(u32, Items<u8>),

@@ -29,7 +29,7 @@ pub struct Refusal {
     pub error: io::Error,
 }
 
-/// A host over the system's processes and its clock, which starts at 0.
+/// A host over the system's processes and its clock, whose readings start at 0.
 #[derive(Drop)]
 pub struct RealHost<R: Processes> {
     system: R,
@@ -38,13 +38,12 @@ pub struct RealHost<R: Processes> {
     children: Vec<Running<R::Started>>,
     // the shells that send signals; their ends are not reported
     helpers: Vec<Child<R::Started>>,
-    // where the next look at the children begins
+    // the place where the next look at the children begins
     next: usize,
     journal: Journal<Happened>,
     refusals: Vec<Refusal>,
 }
 
-// Starts the process of an order.
 fn spawn_order<R: Processes>(
     system: &R,
     alloc: Global,
@@ -58,14 +57,13 @@ fn spawn_order<R: Processes>(
     }
 }
 
-// Starts the process of a command.
 fn started_by<R: Processes>(system: &R, mut command: Command) -> io::Result<Child<R::Started>> {
     let child = command.spawn(system);
     drop(command);
     child
 }
 
-// Starts a shell that sends the signal.
+// Starts a shell that sends the signal. None for a signal without a name, or if the shell can't be started.
 fn kill_by_shell<R: Processes>(
     system: &R,
     alloc: Global,
@@ -109,7 +107,7 @@ impl<R: Processes> RealHost<R> {
         })
     }
 
-    // Keeps why the system refused an order, if there is memory for it.
+    // Keeps the reason why the system refused an order, unless out of memory.
     fn note_refusal(&mut self, order: &Order, error: io::Error)
         ensures refusals { (self.new.refusals.items ≡ self.old.refusals.items
             ++ record { who = order.now.who; process = order.now.process; error = error } ∷ [])
@@ -128,7 +126,7 @@ impl<R: Processes> RealHost<R> {
         let _ = self.refusals.push(refusal);
     }
 
-    /// The starts that the system refused since the record was emptied, oldest first. One for which there was no memory is left out.
+    /// The starts that the system refused since the record was emptied, oldest first. One is left out if out of memory for it.
     pub fn refusals(&self) -> &[Refusal]
         ensures { result.now ≡ self.now.refusals.items }
     {
@@ -172,7 +170,7 @@ impl<R: Processes> RealHost<R> {
         }
     }
 
-    // The end of the child at a place, twice: for the record and for the caller. Without memory for both the child stays.
+    // The end of the child at a place, twice: for the record and for the caller. If out of memory for both, the child stays.
     fn take_end(&mut self, place: usize, how: How) -> Option<(End, End)>
         requires { place < length self.old.children.items }
         ensures equal { IfSome result (λ ends. ends.0 ≡ ends.1) }
@@ -197,7 +195,7 @@ impl<R: Processes> RealHost<R> {
         Some(((told, process, how), (who, process, how)))
     }
 
-    // Sends a signal to the child with this name and number; whether that could be done.
+    // Sends a signal to the child with this name and process number. False if that failed.
     fn send(&mut self, who: &Who, pid: u32, signal: u8) -> bool
         ensures sent { OnTrue result ((place : ℕ) × HoldsAt (λ running. (running.who ≡ who.now)
             × (running.pid ≡ pid)) self.old.children.items place) }
@@ -213,7 +211,7 @@ impl<R: Processes> RealHost<R> {
         self.send_by_shell(pid, signal)
     }
 
-    // Sends a signal by a helper.
+    // Sends a signal by a helper. False if that failed.
     fn send_by_shell(&mut self, pid: u32, signal: u8) -> bool
         ensures children { length self.new.children.items ≡ length self.old.children.items }
         ensures journal { self.new.journal ≡ self.old.journal }
@@ -230,7 +228,6 @@ impl<R: Processes> RealHost<R> {
         }
     }
 
-    // Counts a call that failed.
     fn fail_call(&mut self) -> HostFault
         ensures calls { calls_of self.new.journal ≡ with_failure (calls_of self.old.journal) }
         ensures children { self.new.children ≡ self.old.children }

@@ -23,14 +23,14 @@ pub struct ScriptDoor {
     alloc: Global,
     visits: Vec<Option<Visitor>>,
     next_visit: usize,
-    // the visit of each client
+    // the index of each client's visit
     clients: Slab<usize>,
     failures: Failures,
     journal: Journal<Passed>,
 }
 
 impl ScriptDoor {
-    /// A door to which these clients come, one an accept at most: `None` is nobody yet, and after the last one nobody comes.
+    /// A door to which these clients come, at most one per accept: `None` means nobody yet, and after the last one nobody comes.
     pub fn new(alloc: Global, visits: Vec<Option<Visitor>>, failures: Vec<Failure>) -> Self
         ensures visits { result.visits ≡ visits }
         ensures failures { result.failures.failures.items ≡ failures.items }
@@ -47,7 +47,6 @@ impl ScriptDoor {
         }
     }
 
-    // Counts a call that failed.
     fn fail_call(&mut self) -> DoorFault
         ensures calls { calls_of self.new.journal ≡ with_failure (calls_of self.old.journal) }
         ensures clients { self.new.clients ≡ self.old.clients }
@@ -56,7 +55,7 @@ impl ScriptDoor {
         DoorFault
     }
 
-    // The visit that begins at this accept, if one does.
+    // The visit that begins at this accept, if any.
     fn next_visit(&mut self) -> Option<usize>
         ensures journal { self.new.journal ≡ self.old.journal }
         ensures clients { self.new.clients ≡ self.old.clients }
@@ -70,7 +69,7 @@ impl ScriptDoor {
         comes.then_some(visit)
     }
 
-    // What a read of the client finds.
+    // The outcome of a read of the client.
     fn speak(&mut self, client: u32, most: usize) -> Spoken
         ensures spoken { IsWithin most result }
         ensures journal { self.new.journal ≡ self.old.journal }
@@ -85,7 +84,7 @@ impl ScriptDoor {
         }
     }
 
-    // How many bytes a write to the client takes.
+    // The number of bytes that a write to the client takes.
     fn take(&mut self, client: u32, count: usize) -> Option<usize>
         ensures within { IfSome result (λ taken. taken ≤ count) }
         ensures journal { self.new.journal ≡ self.old.journal }

@@ -16,14 +16,14 @@ use up_model::{How, Order, Process, Who};
 /// The end of a process.
 type End = (Who, Process, How);
 
-/// What a scripted host answers, call by call.
+/// The answers of a scripted host, call by call.
 #[derive(Drop)]
 pub struct Script {
-    /// The numbers of the processes that are spawned; after the last one a spawn is refused.
+    /// The process numbers of the processes that are spawned; after the last one a spawn is refused.
     pub pids: Vec<u32>,
-    /// What the polls find; after the last one they find nothing. An end waits until a process lives.
+    /// The ends that the polls find; after the last one they find none. An end waits until a process lives.
     pub ends: Vec<Option<End>>,
-    /// The readings of the clock; after the last one the clock stands still. Before the first it reads 0.
+    /// The readings of the clock; after the last one it is repeated. Before the first it reads 0.
     pub readings: Vec<u64>,
 }
 
@@ -69,7 +69,6 @@ impl ScriptHost {
         }
     }
 
-    // Counts a call that failed.
     fn fail_call(&mut self) -> HostFault
         ensures calls { calls_of self.new.journal ≡ with_failure (calls_of self.old.journal) }
         ensures living { self.new.living ≡ self.old.living }
@@ -78,7 +77,7 @@ impl ScriptHost {
         HostFault
     }
 
-    // The number of the next process, which lives from now on.
+    // The process number of the next process, which lives from now on.
     fn start(&mut self) -> Option<u32>
         ensures pid { IfSome result (λ pid. slice_get self.old.script.pids.items self.old.next_pid
             ≡ Some pid) }
@@ -118,7 +117,7 @@ impl ScriptHost {
         }
     }
 
-    // Passes over an end, which is that of a process that lived.
+    // Passes over an end, so that one process fewer lives.
     fn pass_end(&mut self)
         requires { 0 < self.old.living }
         ensures next { self.new.next_end ≡ call_after self.old.next_end }
@@ -129,7 +128,7 @@ impl ScriptHost {
         self.living -= 1;
     }
 
-    // The next reading of the clock.
+    // The next reading of the clock; after the last one, that again.
     fn read_clock(&mut self) -> u64
         ensures reading { MatchOption (slice_get self.old.script.readings.items self.old.next_reading)
             (result ≡ self.old.reading)
@@ -146,12 +145,12 @@ impl ScriptHost {
     }
 }
 
-// What a poll of a script finds.
+// The outcome of a poll of a script.
 enum Found {
     // An end, for the record and for the caller.
     End(End, End),
     Nothing,
-    // No memory was left for it.
+    // Out of memory for it.
     Failed,
 }
 

@@ -9,7 +9,7 @@ use crate::source_fault::SourceFault;
 use std::alloc::Global;
 use up_model::Loaded;
 
-/// A source that plays a script: it gives one configuration a call.
+/// A source that plays a script: it returns one configuration per call.
 #[derive(Drop)]
 pub struct ScriptSource {
     alloc: Global,
@@ -19,7 +19,7 @@ pub struct ScriptSource {
 }
 
 impl ScriptSource {
-    /// A source that gives these, one a call: `None` is a call that fails, and after the last one each fails.
+    /// A source that returns these, one per call: `None` is a call that fails, and after the last one each call fails.
     pub fn new(alloc: Global, loads: Vec<Option<Loaded>>) -> Self
         ensures loads { result.loads ≡ loads }
         ensures calls { calls_of result.journal ≡ no_calls }
@@ -32,7 +32,7 @@ impl ScriptSource {
         }
     }
 
-    // What this call gives, if it gives something and there is memory for it.
+    // The configuration of this call, unless the call fails or is out of memory.
     fn next_load(&mut self) -> Option<Loaded>
         ensures { self.new.journal ≡ self.old.journal }
     {

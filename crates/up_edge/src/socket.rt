@@ -22,7 +22,7 @@ pub enum SocketFault {
     Empty,
     #[error("the socket's path is too long")]
     TooLong,
-    /// The path is there, or something at `PATH.new` that isn't the folder of a start that was ended.
+    /// There is something at the path, or at `PATH.new` something that isn't the folder of a start that was ended.
     #[error("the socket exists")]
     Exists,
     #[error("no memory is left")]
@@ -32,10 +32,10 @@ pub enum SocketFault {
     Unusable(ErrorKind),
 }
 
-/// The most bytes of a path: the system allows 107 (unix(7)), and the socket is made six bytes below it.
+/// The maximum length of a path in bytes: the system allows 107 (unix(7)), and the socket is made six bytes below it.
 const MOST_PATH: usize = 101;
 
-/// So often a folder is made that another start removes before it is locked.
+/// How often a folder is made that another start removes before it is locked.
 const MOST_TRIES: u32 = 8;
 
 /// The refusal of a path that no socket can have.
@@ -51,7 +51,6 @@ pub(crate) fn path_refusal(path: &str) -> Option<SocketFault>
     }
 }
 
-// The refusal that an error of the system is.
 fn refusal_of(error: &io::Error) -> SocketFault
     ensures { IsOfSystem result }
 {
@@ -62,7 +61,7 @@ fn refusal_of(error: &io::Error) -> SocketFault
     }
 }
 
-// Makes a socket at the path `inner`, and the name `path` for it once no other user can connect.
+// Makes a socket at the path `inner`, and links it to `path` once no other user can connect.
 fn listen_inside<R: Files + Net>(rt: &R, inner: &str, path: &str) -> io::Result<UnixListener> {
     let listener = UnixListener::bind(rt, inner)?;
     set_permissions(rt, inner, Permissions::from_mode(0o600))?;
@@ -70,7 +69,7 @@ fn listen_inside<R: Files + Net>(rt: &R, inner: &str, path: &str) -> io::Result<
     Ok(listener)
 }
 
-// Whether a path is that of a folder of this process's user that nobody else can enter.
+// Whether a path is a folder of this process's user that nobody else can enter.
 fn is_own_folder(rt: &impl Files, folder: &str) -> bool {
     match (symlink_metadata(rt, folder), metadata(rt, "/proc/self")) {
         (Ok(found), Ok(own)) => {
@@ -82,7 +81,7 @@ fn is_own_folder(rt: &impl Files, folder: &str) -> bool {
     }
 }
 
-// Whether nobody listens at a path: nothing is there, or a socket that refuses to be connected to.
+// Whether nobody listens at a path: there is nothing, or a socket that refuses connections.
 fn is_deserted<R: Files + Net>(rt: &R, inner: &str) -> bool {
     match symlink_metadata(rt, inner) {
         Ok(found) if found.file_type().is_socket() => match UnixStream::connect(rt, inner) {
@@ -94,7 +93,7 @@ fn is_deserted<R: Files + Net>(rt: &R, inner: &str) -> bool {
     }
 }
 
-// Makes the folder of a socket, if it isn't there. One that is there has to be that of a start of this user.
+// Makes the folder of a socket, if it isn't there. An existing one has to be that of a start of this user.
 fn make_folder(rt: &impl Files, folder: &str) -> io::Result<()> {
     let mut builder = DirBuilder::new();
     builder.mode(0o700);
@@ -139,7 +138,7 @@ fn locked_folder<R: Files<File = File>>(rt: &R, folder: &str) -> io::Result<Opti
     }
 }
 
-// Makes a socket in a folder that this start has locked. The socket of a start that was ended goes before, and the folder afterwards.
+// Makes a socket in a folder that this start has locked. Removes the socket of an ended start before, and the folder afterwards.
 fn listen_locked<R: Files + Net>(
     rt: &R,
     folder: &str,
@@ -156,7 +155,7 @@ fn listen_locked<R: Files + Net>(
     listener
 }
 
-// Makes a socket in a folder that nobody else can enter, which goes afterwards.
+// Makes a socket in a folder that nobody else can enter, which is removed afterwards.
 fn listen_through<R: Files<File = File> + Net>(
     rt: &R,
     folder: &str,
@@ -164,7 +163,7 @@ fn listen_through<R: Files<File = File> + Net>(
     path: &str,
 ) -> io::Result<UnixListener> {
     for _ in 0..MOST_TRIES {
-        // It is told as well if the folder can't be made. A path that comes to be later, the link refuses.
+        // This is reported even if the folder can't be made. If something is made at the path later, the link fails.
         if symlink_metadata(rt, path).is_ok() {
             return Err(io::Error::from(ErrorKind::AlreadyExists));
         }
@@ -177,7 +176,7 @@ fn listen_through<R: Files<File = File> + Net>(
     Err(io::Error::from(ErrorKind::ResourceBusy))
 }
 
-/// A socket that its owner alone can use (mode 0600) from the first moment that it can be seen.
+/// A socket that only its owner can use (mode 0600) from the first moment that it is visible.
 pub(crate) fn listen<R: Files<File = File> + Net>(
     rt: &R,
     alloc: Global,

@@ -1,4 +1,4 @@
-//! What a source of configurations promises of each call.
+//! The contract of a source's calls.
 ghost use Rattle.std.specs.Prelude.{◌≡◌, Some, IfOk};
 ghost use Rattle.up_edge.specs.Calls.{Calls, Reports, emptied, with_failure};
 ghost use Rattle.up_edge.specs.Journals.{calls_of};
@@ -9,7 +9,7 @@ use crate::source_fault::SourceFault;
 use std::alloc::Global;
 use up_model::Loaded;
 
-/// Where the configuration is read again, when a client asks for it (initctl(8), `reload-configuration`).
+/// Reads the configuration again, when a client asks for it (initctl(8), `reload-configuration`).
 ///
 /// A call that succeeds adds one entry to the record, and one that fails adds one to the count of faults.
 pub trait Source {
@@ -20,7 +20,6 @@ pub trait Source {
     fn load(&mut self) -> Result<Loaded, SourceFault>
         ensures { Reports (λ loaded. loaded) (calls self.old) result (calls self.new) };
 
-    /// How many calls have failed.
     fn faults(&self) -> u64
         ensures { result ≡ (calls self.now).faults };
 
@@ -28,12 +27,10 @@ pub trait Source {
     fn happened(&self) -> &[Loaded]
         ensures { result.now ≡ (calls self.now).entries };
 
-    /// Empties the record.
     fn clear_record(&mut self)
         ensures { calls self.new ≡ emptied (calls self.old) };
 }
 
-// Counts a load that failed.
 fn fail_load(journal: &mut Journal<Loaded>) -> SourceFault
     ensures { calls_of journal.new ≡ with_failure (calls_of journal.old) }
 {
@@ -41,7 +38,7 @@ fn fail_load(journal: &mut Journal<Loaded>) -> SourceFault
     SourceFault
 }
 
-/// Records a load that found this. If it found nothing, or no memory is left for the entry, the load failed.
+/// Records a load that found this. If it found nothing, or is out of memory for the entry, the load failed.
 pub fn report_load(
     journal: &mut Journal<Loaded>,
     alloc: Global,

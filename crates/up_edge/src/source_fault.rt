@@ -3,7 +3,7 @@ ghost use Rattle.std.specs.Prelude.{◌≡◌};
 
 use thiserror::Error;
 
-/// The configuration couldn't be read, or no memory was left for it. The source counted the fault.
+/// The configuration couldn't be read, or it ran out of memory. The source counted the fault.
 #[derive(Clone, Copy, Debug, PartialEq, Eq, Error)]
 #[error("SourceFault")]
 pub struct SourceFault;

@@ -23,10 +23,10 @@ use std::net::Net;
 use std::time::Duration;
 use up_text::Items;
 
-/// How many sockets that are ready one pause takes note of. The others are ready for the next.
+/// How many ready sockets one pause takes note of. The others are left for the next.
 const MOST_EVENTS: usize = 64;
 
-/// The token of the listener. No client has it, since a client's is at most that of 32 bits.
+/// The token of the listener. No client has it, since a client's token fits in 32 bits.
 const LISTENER: usize = usize::MAX;
 
 /// A door over a unix socket, whose calls don't wait.
@@ -37,26 +37,26 @@ pub struct UnixDoor {
     poll: Poll,
     events: Events,
     clients: Slab<UnixStream>,
-    // a client that is told to send no more once it sends nothing
+    // a client that is reported to send no more once a read finds nothing
     dismissed: Option<u32>,
     // the calls that failed since the record was emptied
     failed: Vec<DoorCall>,
     journal: Journal<Passed>,
 }
 
-// What was waiting to be let in.
+// The client that was waiting to be let in, if any.
 enum Arrival {
     Client(UnixStream),
     Nobody,
     Failed,
 }
 
-// Whether an error only says that there is nothing to do now.
+// Whether an error only means that there is nothing to do now.
 fn is_for_later(error: &io::Error) -> bool {
     matches!(error.kind(), ErrorKind::WouldBlock | ErrorKind::Interrupted)
 }
 
-// The client that waits, which a pause takes note of under the token.
+// The waiting client, which is registered with the poll under the token.
 fn admit(listener: &UnixListener, poll: &Poll, token: usize) -> Arrival {
     match listener.accept() {
         Ok((stream, _)) => watched(poll, stream, token),
@@ -78,7 +78,7 @@ fn watched(poll: &Poll, mut stream: UnixStream, token: usize) -> Arrival {
     }
 }
 
-// How many bytes the client sent; `None` if it sent none yet, and 0 if it is dismissed then.
+// The number of bytes that the client sent; if it sent none yet, `None`, or 0 if it is dismissed.
 fn receive(
     stream: &UnixStream,
     bytes: &mut [u8],
@@ -100,7 +100,7 @@ fn receive(
     }
 }
 
-// How many bytes the client's socket took; 0 if it takes none now.
+// The number of bytes that the client's socket took; 0 if it takes none now.
 fn send(stream: &UnixStream, bytes: &[u8]) -> Result<usize, DoorFault>
     ensures { IfOk result (λ count. count ≤ length bytes.now) }
 {
@@ -117,7 +117,7 @@ fn send(stream: &UnixStream, bytes: &[u8]) -> Result<usize, DoorFault>
     }
 }
 
-// A door at a path that a socket can have.
+// A door at a path that is valid for a socket.
 fn open<R: Files<File = File> + Net>(
     rt: &R,
     alloc: Global,
@@ -155,9 +155,9 @@ fn open<R: Files<File = File> + Net>(
 }
 
 impl UnixDoor {
-    /// A door at a path where nothing is yet. Its socket can be used by its owner alone. Refused for an empty path, one of more
-    /// than 101 bytes, and one that exists; it is not removed when the door goes. The folder `PATH.new` in which it is made is taken
-    /// over from a start of the same user that was ended.
+    /// A door at a path where nothing exists yet. Only its owner can use the socket. Refused for an empty path, one of more
+    /// than 101 bytes, and one that exists; it is not removed when the door is dropped. The folder `PATH.new` in which it is made is taken
+    /// over from an ended start of the same user.
     pub fn bind<R: Files<File = File> + Net>(
         rt: &R,
         alloc: Global,
@@ -174,8 +174,8 @@ impl UnixDoor {
         }
     }
 
-    /// Waits until a client or a byte comes, a client takes bytes again, or the time is over. Call it after a round that did
-    /// nothing alone: what became ready before a read, a write or an accept is not reported again.
+    /// Waits until a client or a byte comes, a client takes bytes again, or the time is over. Call it only after a round that did
+    /// nothing: what became ready before a read, a write or an accept is not reported again.
     pub fn pause(&mut self, most: Duration) -> io::Result<()>
         ensures journal { self.new.journal ≡ self.old.journal }
         ensures clients { self.new.clients ≡ self.old.clients }
@@ -183,7 +183,7 @@ impl UnixDoor {
         self.poll.poll(&mut self.events, Some(most))
     }
 
-    // A pause takes note of the listener from now on.
+    // Registers the listener with the poll.
     fn watch(&mut self) -> io::Result<()>
         ensures journal { self.new.journal ≡ self.old.journal }
         ensures clients { self.new.clients ≡ self.old.clients }
@@ -192,14 +192,14 @@ impl UnixDoor {
         registry.register(&mut self.listener, Token(LISTENER), Interest::READABLE)
     }
 
-    /// The calls that failed since the record was emptied, oldest first. One for which there was no memory is left out.
+    /// The calls that failed since the record was emptied, oldest first. One is left out if out of memory for it.
     pub fn failed(&self) -> &[DoorCall]
         ensures { result.now ≡ self.now.failed.items }
     {
         self.failed.as_slice()
     }
 
-    /// Dismisses a client, or none any more: a read that finds nothing of it tells that it sends no more.
+    /// Dismisses a client, or none any more: a read of it that finds nothing reports that it sends no more.
     pub fn dismiss(&mut self, client: Option<u32>)
         ensures dismissed { self.new.dismissed ≡ client }
         ensures failed { self.new.failed ≡ self.old.failed }
@@ -209,7 +209,7 @@ impl UnixDoor {
         self.dismissed = client;
     }
 
-    // Counts a call that failed, and keeps which, if there is memory for it.
+    // Counts a call that failed, and keeps it, unless out of memory.
     fn fail_call(&mut self, call: DoorCall) -> DoorFault
         ensures calls { calls_of self.new.journal ≡ with_failure (calls_of self.old.journal) }
         ensures clients { self.new.clients ≡ self.old.clients }

@@ -17,8 +17,8 @@ pub struct Visitor {
 }
 
 impl Visitor {
-    /// A client that says these pieces, one a read or more: `None` is nothing yet, and an empty one the end. After the last it says
-    /// nothing. Its writes take at most so many bytes; after the last one they take all.
+    /// A client that sends these pieces, one or more reads each: `None` means nothing yet, and an empty one the end. After the last it
+    /// sends nothing. Its writes take at most these numbers of bytes; after the last one they take all.
     pub fn new(says: Vec<Option<Items<u8>>>, takes: Vec<usize>) -> Self
         ensures says { result.says ≡ says }
         ensures takes { result.takes ≡ takes }
@@ -33,7 +33,7 @@ impl Visitor {
         }
     }
 
-    // What is left of the piece that the client says next; `None` for nothing yet.
+    // The rest of the piece that the client sends next; `None` for nothing yet.
     fn piece(&self) -> Option<&[u8]> {
         match self.says.get(self.said) {
             Some(Some(piece)) => piece.as_slice().get(self.within..),
@@ -41,7 +41,7 @@ impl Visitor {
         }
     }
 
-    // The piece is over, or so many bytes of it are read.
+    // Skips `count` bytes of the piece; at its end goes on to the next.
     fn advance(&mut self, count: usize, left: usize) {
         if count < left {
             self.within = self.within.saturating_add(count);
@@ -51,7 +51,7 @@ impl Visitor {
         }
     }
 
-    /// How many of so many bytes the next write takes.
+    /// How many of `count` bytes the next write takes.
     pub(crate) fn take(&mut self, count: usize) -> usize
         ensures { result ≤ count }
     {
@@ -65,7 +65,7 @@ impl Visitor {
         }
     }
 
-    /// The bytes of the next read, at most so many; `None` for nothing yet.
+    /// The bytes of the next read, at most `most`; `None` for nothing yet.
     pub(crate) fn speak(&mut self, alloc: Global, most: usize) -> Spoken
         ensures { IsWithin most result }
     {
@@ -85,10 +85,10 @@ impl Visitor {
     }
 }
 
-/// What a read of a script finds.
+/// The outcome of a read of a script.
 pub(crate) enum Spoken {
     Bytes(Vec<u8>),
     Nothing,
-    /// No memory was left for it.
+    /// Out of memory for it.
     Failed,
 }

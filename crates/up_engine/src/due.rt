@@ -39,7 +39,6 @@ pub(crate) enum Concern {
     Anybody,
 }
 
-// The instance that is known outside by these names.
 fn find<B: Book>(setup: &Setup, book: &B, who: &Who) -> Option<InstanceKey>
     ensures { (mode : Mode) (c : Chronicle) → B.stands book.now mode setup.now c
         → option_map (instance_place setup.now c) result ≡ option_map Some (instance_named who.now c) }
@@ -70,7 +69,7 @@ fn has_living<B: Book>(setup: &Setup, book: &B, who: &Who, process: Process) -> 
     }
 }
 
-/// Whether an input is expected: the answer for a process that is ordered and unanswered, the end of one that lives, or any other.
+/// Whether an input is expected: an answer needs a process that is ordered and unanswered, an end one that lives; all others are.
 #[tactic(auto, unfolding(up_model::specs::Answers::is_expected))]
 pub(crate) fn is_expected<B: Book>(setup: &Setup, book: &B, input: &Input) -> bool
     ensures { (mode : Mode) (c : Chronicle) → B.stands book.now mode setup.now c
@@ -100,7 +99,7 @@ fn take_event<B: Book>(book: &mut B, event: Event) -> Result<(), AllocError>
     Ok(())
 }
 
-// Whom the answer for a process concerns, or its end: its instance, if that exists.
+// Whom the answer for a process, or its end, concerns: its instance, if that exists.
 fn concern_of(on: Option<InstanceKey>) -> Concern
     ensures { result ≡ concern_of on }
 {
@@ -172,7 +171,7 @@ fn take_end<B: Book>(
     Ok(concern_of(on))
 }
 
-// The event that tells that another was spoilt, if it was.
+// The event that reports that another was spoilt, if it was.
 fn failed_event_of<B: Book>(
     alloc: Global,
     book: &B,
@@ -192,7 +191,7 @@ fn failed_event_of<B: Book>(
     Ok(told)
 }
 
-// Whom an event concerns that has finished: the instance that waited for it, if one did.
+// Whom a finished event concerns: the instance that waited for it, if any.
 fn unblocked_concern(on: Option<InstanceKey>) -> Concern
     ensures { result ≡ unblocked_concern on }
 {
@@ -233,7 +232,7 @@ fn handle<B: Book>(book: &mut B, key: EventId)
     book.handle(key)
 }
 
-// Takes a turn in: it handles an unhandled event, and finishes a handled one.
+// Takes a turn: handles an unhandled event, or finishes a handled one.
 #[tactic(auto, using(up_cascade::proofs::Entries::one_last))]
 fn turn_by<B: Book>(
     alloc: Global,
@@ -308,7 +307,7 @@ fn take_reading<B: Book>(
     Ok(())
 }
 
-/// Takes an input in that is no load, with its own effect; returns whom that concerns.
+/// Takes an input other than a load, and applies its effect; returns whom that concerns.
 #[tactic(auto, unfolding(up_model::specs::Due::effect))]
 pub(crate) fn apply_effect<B: Book>(
     alloc: Global,

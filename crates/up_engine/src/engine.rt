@@ -32,22 +32,22 @@ use up_ledger::Ledger;
 use up_model::{Answer, Input, Output, Step};
 use up_text::{Env, Items, Text};
 
-/// What runs the jobs of a table: it takes one input a step, and answers what is to be done.
+/// Runs the jobs of a table: takes one input per step, and returns what is to be done.
 ///
-/// It keeps of the past what can still matter, and not what is over.
+/// It keeps only the part of the past that can still matter.
 #[derive(Drop)]
 pub struct Engine {
     alloc: Global,
     setup: Setup,
     book: Ledger,
-    // A step ran out of memory; what the engine tells of its events is then what held before that step.
+    // A step ran out of memory; the engine then reports its events as they were before that step.
     down: bool,
     live: usize,
     turns: bool,
     ghost sound: { IsSound down setup book },
 }
 
-// Takes an input in that is no load, and does what is due until nothing is; or carries a load out, after which nothing is due.
+// Takes an input, and does what is due until nothing is; after a load nothing is due.
 fn take<B: Book>(
     alloc: Global,
     setup: &mut Setup,
@@ -73,7 +73,6 @@ fn take<B: Book>(
     Ok(())
 }
 
-// One whole step.
 fn step_book<B: Book>(
     alloc: Global,
     setup: &mut Setup,
@@ -97,7 +96,7 @@ fn step_book<B: Book>(
     Ok(outputs)
 }
 
-// What clients read of the instance of a job that these variables name.
+// The answer to a `status` request for the instance of a job that these variables name.
 fn status_of<B: Book>(
     alloc: Global,
     setup: &Setup,
@@ -168,8 +167,8 @@ impl Engine {
         self.book.turn().is_some()
     }
 
-    /// What clients read of the instance of a job that these variables name: the text of a request `status`, or why it is refused
-    /// (initctl(8)). Refused with `Memory`, which changes nothing, and with `Down` if the engine is.
+    /// The status of the instance of a job that these variables name: the text of a request `status`, or why it is refused
+    /// (initctl(8)). Refused with `Memory`, which changes nothing, and with `Down` if the engine is down.
     pub fn status(&self, job: &str, vars: &Env) -> Result<Answer, StepError>
         ensures meaning { (config : Configuration) (c : Chronicle) → Stands self.now config c
             → TellsOf result (answer_of (commands.status (commands.known_target (in_force config c) job.now vars.now c) c)) }
@@ -184,8 +183,8 @@ impl Engine {
         }
     }
 
-    /// What clients read of all instances, and of the jobs without any: the text of a request `list` (initctl(8)). Refused with `Memory`,
-    /// which changes nothing, and with `Down` if the engine is.
+    /// The status of all instances, and of the jobs without any: the text of a request `list` (initctl(8)). Refused with `Memory`,
+    /// which changes nothing, and with `Down` if the engine is down.
     pub fn list(&self) -> Result<Text, StepError>
         ensures meaning { (config : Configuration) (c : Chronicle) → Stands self.now config c
             → TellsOf result (commands.listing (in_force config c) c) }
@@ -200,7 +199,6 @@ impl Engine {
         }
     }
 
-    // Whether an input is expected.
     fn expects(&self, given: &Input) -> bool
         ensures { (config : Configuration) (c : Chronicle) → Stands self.now config c
             → result ≡ answer.is_expected given.now c }
@@ -208,7 +206,7 @@ impl Engine {
         is_expected(&self.setup, &self.book, given)
     }
 
-    /// Takes one input, and answers what it asks for, in order. Refused with `NotExpected` for the answer or the end of a process
+    /// Takes one input, and returns its outputs, in order. Refused with `NotExpected` for the answer or the end of a process
     /// that isn't expected, which changes nothing; with `Memory`, after which the engine is down; and with `Down` if it is. A turn without an
     /// event, one that takes up an event of which no job hears, one that finishes an event for which nobody waits, and a reading of the
     /// clock at which no process is to be killed take no memory.
@@ -241,7 +239,7 @@ impl Engine {
         }
     }
 
-    /// The answer to one input, as `run` gives it; none if memory ran out, in this step or before.
+    /// The answer to one input, as in `run`; none if out of memory, in this step or before.
     pub fn answer(&mut self, given: Input) -> Option<Step>
         ensures meaning { (config : Configuration) (c : Chronicle) → Stands self.old config c
             → AnswerMeans result self.new config c given }
@@ -256,8 +254,8 @@ impl Engine {
         }
     }
 
-    /// Takes inputs one after another, and answers each. The room for all answers is taken first: refused there with `Memory`, the
-    /// engine has taken none of them. It stops at the first input that runs out of memory. Refused with `Down` if it is.
+    /// Takes inputs one after another, and answers each. The memory for all answers is taken first: if that is refused with `Memory`, the
+    /// engine has taken none of them. It stops at the first input that runs out of memory. Refused with `Down` if it is down.
     pub fn run(&mut self, inputs: Vec<Input>) -> Result<Run, StepError>
         ensures meaning { (config : Configuration) (c : Chronicle) → Stands self.old config c
             → RunMeans result self.new config c inputs.items }

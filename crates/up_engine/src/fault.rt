@@ -11,10 +11,10 @@ pub enum StepError {
     /// The answer for a process that isn't ordered and unanswered, or the end of one that doesn't live. Nothing changed.
     #[error("NotExpected")]
     NotExpected,
-    /// An earlier step was refused memory in its midst.
+    /// An earlier step ran out of memory midway.
     #[error("Down")]
     Down,
-    /// Memory was refused.
+    /// Out of memory.
     #[error("Memory")]
     Memory,
 }

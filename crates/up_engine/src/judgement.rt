@@ -1,4 +1,4 @@
-//! What the end or the refusal of a process does to its instance.
+//! The effect of the end or the refusal of a process on its instance.
 ghost use Rattle.std.specs.Prelude.{◌≡◌, ℕ, List, ◌++◌, Option, None, Some, OnOk};
 ghost use Rattle.up_book.specs.Keys.{Mode, Stepping, name_at, instance_place};
 ghost use Rattle.up_engine.specs.Effects.{Judges};
@@ -17,7 +17,7 @@ use up_conf::Exit;
 use up_job::{InstanceKey, judge_end};
 use up_model::{End, Failure, How, JobDef, Process, Verdict, Who};
 
-// The goal of an instance becomes stop by itself, if it is start.
+// The goal of an instance becomes stop of its own accord, if it is start.
 fn end_itself<B: Book>(book: &mut B, key: InstanceKey) -> Result<(), AllocError>
     ensures instances { OnOk result ((config : Configuration) (c : Chronicle) (i : ℕ)
         → B.stands book.old Stepping config c
@@ -81,7 +81,6 @@ fn is_listed(exits: &[Exit], how: How) -> bool
     exits.iter().any(|exit| same_exit(exit, how))
 }
 
-// Whether an end is normal for a job.
 fn is_normal(exits: &[Exit], end: End) -> bool
     ensures { result ≡ model.is_normal exits.now end }
 {
@@ -91,7 +90,6 @@ fn is_normal(exits: &[Exit], end: End) -> bool
     }
 }
 
-// What an end does to an instance.
 fn verdict_on_end<B: Book>(
     book: &B,
     job: &JobDef,
@@ -119,7 +117,7 @@ fn verdict_on_end<B: Book>(
     )
 }
 
-// What an end does to an instance by its file, if it is there.
+// The verdict on an end by the file of its instance, if that exists.
 fn verdict_by<B: Book>(
     book: &B,
     key: InstanceKey,
@@ -136,7 +134,7 @@ fn verdict_by<B: Book>(
     }
 }
 
-// What the end of a process does to which instance of a job, if that exists.
+// The verdict on the end of a process, with its instance, if that exists.
 fn verdict_in<B: Book>(
     book: &B,
     index: usize,
@@ -153,7 +151,7 @@ fn verdict_in<B: Book>(
     }
 }
 
-/// What the end of a process does, and to which instance, if that exists.
+/// The verdict on the end of a process, with its instance, if that exists.
 pub(crate) fn verdict_on<B: Book>(
     setup: &Setup,
     book: &B,
@@ -170,7 +168,7 @@ pub(crate) fn verdict_on<B: Book>(
     }
 }
 
-/// Carries out what was judged of the end of a process.
+/// Carries out the verdict on the end of a process.
 pub(crate) fn conclude<B: Book>(
     book: &mut B,
     verdict_on_end: Option<(InstanceKey, Verdict)>,

@@ -1,4 +1,4 @@
-//! Laws: what holds of every run of a folder that is compiled.
+//! Laws: properties of every run of a compiled folder.
 ghost use Rattle.std.specs.Prelude.{◌≡◌, ℕ, [], false, List, None, Ok, replicate};
 ghost use Rattle.up_conf.specs.declared.folder.File.{File};
 ghost use Rattle.up_conf.specs.declared.job.JobDef.{JobDef};
@@ -24,26 +24,26 @@ ghost use Rattle.up_model.specs.Left.{left};
 ghost use Rattle.up_model.specs.Queue.{queue};
 ghost use Rattle.up_model.specs.Values.{Bindings, Bytes};
 
-/// An instance doesn't order its main process while that lives, whatever folder is compiled and whatever is given.
+/// An instance doesn't order its main process while that lives, whatever the compiled folder and the inputs.
 pub fn one_main()
     ensures { (files : List File) (table : List JobDef) (report : List Fault) (base : Bindings)
         (inputs : List Input)
         → Compiles files table report → HasOneMain (after_all (started_with base table) [] inputs) }
 {}
 
-/// The same of every table, whether it was compiled or read from an image.
+/// The same for every table, whether it was compiled or read from an image.
 pub fn one_main_of_tables()
     ensures { (jobs : List JobDef) (base : Bindings) (inputs : List Input)
         → IsTable jobs → HasOneMain (after_all (started_with base jobs) [] inputs) }
 {}
 
-/// What the instances of an engine may still order is what the chronicle says that it stands for.
+/// What the instances of an engine may still order agrees with the chronicle that the engine represents.
 pub fn left_as_told()
     ensures { (engine : Engine) (config : Configuration) (c : Chronicle) → Stands engine config c
         → left_of engine ≡ left c }
 {}
 
-/// Turns that find no event ask for nothing, and an engine stands for as many of them as there are: it needs to take none.
+/// Turns that find no event cause nothing, and an engine represents any number of them: it needs to take none.
 pub fn idle_turns()
     ensures { (engine : Engine) (config : Configuration) (c : Chronicle) (count : ℕ) → Stands engine config c
         → turn_event (in_force config c) (queue c) c ≡ None
@@ -51,8 +51,8 @@ pub fn idle_turns()
         × (answers config c (replicate count Turn) ≡ replicate count (Gave [])) }
 {}
 
-/// In two runs of compiled folders in which the same comes to a job's notice, the job does the same: if the bases are one and the
-/// folders give the job the same meaning, or neither has it.
+/// In two runs of compiled folders in which the same comes to a job's notice, the job does the same: if the bases are equal and the
+/// folders define the job alike, or neither has it.
 pub fn isolation()
     ensures { (files others : List File) (first second : Configuration) (report told : List Fault) (job : Bytes)
         (inputs given : List Input)
@@ -61,7 +61,7 @@ pub fn isolation()
         → deeds job (after_all first [] inputs) ≡ deeds job (after_all second [] given) }
 {}
 
-/// The same of the steps of two engines, neither of which ran out of memory: what the job does in each step is among the outputs
+/// The same for the steps of two engines, neither of which ran out of memory: what the job does in each step is among the outputs
 /// of that step, in their order, and all that it does is the same in both runs. So are the starts and signals among the outputs
 /// that name the job.
 pub fn isolated_runs()

@@ -1,4 +1,4 @@
-//! What a load does (initctl(8), `reload-configuration`).
+//! The effect of a load (initctl(8), `reload-configuration`).
 ghost use Rattle.std.specs.Prelude.{◌≡◌, ◌∷◌, ◌++◌, length, true, OnOk};
 ghost use Rattle.up_book.specs.Keys.{Stepping};
 ghost use Rattle.up_model.specs.Chronicle.{Chronicle};
@@ -17,7 +17,7 @@ use up_image::Table;
 use up_model::{Answer, Input, Loaded};
 use up_text::Text;
 
-// Jobs that were read come into force, and the client is answered.
+// Puts the jobs that were read in force, and answers the client.
 fn load_files<B: Book>(
     alloc: Global,
     setup: &mut Setup,
@@ -38,7 +38,7 @@ fn load_files<B: Book>(
     Ok(())
 }
 
-// The client is answered that nothing was loaded.
+// Answers the client that nothing was loaded.
 fn refuse_load<B: Book>(book: &mut B, text: Text) -> Result<(), AllocError>
     ensures { OnOk result ((config : Configuration) (c : Chronicle) (given : InputValue)
         → B.stands book.old Stepping config (entry.Given given ∷ c)
@@ -74,7 +74,6 @@ fn load_or_refuse<B: Book>(
     Ok(())
 }
 
-/// Whether an input is a load.
 pub(crate) fn is_load(given: &Input) -> bool
     ensures { result ≡ is_load given.now }
 {

@@ -1,4 +1,4 @@
-//! What the requests of clients do (initctl(8)).
+//! The effects of clients' requests (initctl(8)).
 ghost use Rattle.std.specs.Prelude.{option_map, ◌≡◌, ◌&&◌, ℕ, true, false, List, length, ◌∷◌, ◌++◌, map, Option, None, Some, if◌then◌else◌, IfOk, OnOk};
 ghost use Rattle.up_conf.specs.declared.job.JobDef.{JobDef as JobValue};
 ghost use Rattle.up_model.specs.declared.event_id.EventId.{EventId as EventIdValue};
@@ -35,7 +35,6 @@ use up_job::InstanceKey;
 use up_model::{Answer, Command, Input, MAX_EVENTS, Process, Request, Who};
 use up_text::{Env, Text};
 
-// A request is refused.
 fn refuse<B: Book>(book: &mut B, text: Text) -> Result<(), AllocError>
     ensures { OnOk result ((config : Configuration) (c : Chronicle) (input : InputValue)
         → B.stands book.old Stepping config (entry.Given input ∷ c)
@@ -46,7 +45,6 @@ fn refuse<B: Book>(book: &mut B, text: Text) -> Result<(), AllocError>
     Ok(())
 }
 
-// A request is told a text.
 fn reply_ok<B: Book>(book: &mut B, text: Text) -> Result<(), AllocError>
     ensures { OnOk result ((config : Configuration) (c : Chronicle) → B.stands book.old Stepping config c
         → B.stands book.new Stepping config (entry.Replied (given_place c) (record { ok = true; text = text })
@@ -68,7 +66,7 @@ fn holders_of(wait: bool) -> Holders
     }
 }
 
-// Why a start of an instance that exists is refused, if it is.
+// The reason to refuse the start of an existing instance, if any.
 fn running_refusal<B: Book>(
     alloc: Global,
     book: &B,
@@ -85,7 +83,7 @@ fn running_refusal<B: Book>(
     Ok(None)
 }
 
-// Why a start of a new instance is refused, if it is.
+// The reason to refuse the start of a new instance, if any.
 fn room_refusal<B: Book>(
     alloc: Global,
     book: &B,
@@ -103,7 +101,7 @@ fn room_refusal<B: Book>(
     Ok(None)
 }
 
-// Why a start is refused, if it is.
+// The reason to refuse a start, if any.
 fn start_refusal<B: Book>(
     alloc: Global,
     book: &B,
@@ -158,7 +156,7 @@ fn start_who<B: Book>(
     Ok(())
 }
 
-// The instance of these names, if it is there after a request.
+// The instance of these names, if it exists after a request.
 fn concern_of<B: Book>(book: &B, index: usize, who: &Who) -> Concern
     ensures { (mode : Mode) (config : Configuration) (c : Chronicle) → B.stands book.now mode config c
         → name_at config index ≡ Some who.now.job → IsCalled result config who.now c }
@@ -200,7 +198,7 @@ fn start<B: Book>(
     }
 }
 
-// An instance that exists is stopped, if its goal is start.
+// Stops an existing instance; refuses if its goal isn't start.
 fn stop_found<B: Book>(
     alloc: Global,
     book: &mut B,
@@ -282,7 +280,6 @@ fn stop<B: Book>(
     }
 }
 
-// Whether a client may have main of an instance reload.
 fn can_reload<B: Book>(book: &B, key: InstanceKey) -> bool
     ensures { (mode : Mode) (config : Configuration) (c : Chronicle) (i : ℕ)
         → B.stands book.now mode config c → instance_place config c key ≡ Some i
@@ -291,7 +288,6 @@ fn can_reload<B: Book>(book: &B, key: InstanceKey) -> bool
     book.state_of(key).is_running() && book.lives(key, Process::Main)
 }
 
-// Main of an instance is sent a signal, and the client is answered.
 fn signal_and_reply<B: Book>(
     alloc: Global,
     book: &mut B,
@@ -321,7 +317,7 @@ fn reload_signal<B: Book>(book: &B, key: InstanceKey) -> Option<u8>
     }
 }
 
-// Main of an instance that exists is sent this reload signal of its file, if it runs.
+// Sends the main process this reload signal of its file; refuses if it doesn't run.
 fn reload_by<B: Book>(
     alloc: Global,
     book: &mut B,
@@ -402,7 +398,7 @@ fn reload<B: Book>(alloc: Global, book: &mut B, target: Target) -> Result<(), Al
     Ok(())
 }
 
-// An instance that exists is restarted, if it runs.
+// Restarts an existing instance; refuses if it isn't running.
 fn restart_found<B: Book>(
     alloc: Global,
     book: &mut B,
@@ -479,7 +475,7 @@ fn restart<B: Book>(
     }
 }
 
-// The name of an `emit` is one of an event.
+// The name in an `emit` request is a valid event name.
 fn emit<B: Book>(alloc: Global, book: &mut B, name: &str, vars: Env) -> Result<(), AllocError>
     ensures { OnOk result ((config : Configuration) (request : RequestValue)
         → request.name ≡ name.now → request.vars ≡ vars
@@ -496,7 +492,7 @@ fn emit<B: Book>(alloc: Global, book: &mut B, name: &str, vars: Env) -> Result<(
     Ok(())
 }
 
-// What a request's command does.
+// Carries out a request's command.
 fn change<B: Book>(
     alloc: Global,
     setup: &Setup,
@@ -575,7 +571,7 @@ fn change<B: Book>(
     }
 }
 
-/// Takes a request in, with what it does; returns whom that concerns.
+/// Takes a request, and carries it out; returns whom that concerns.
 #[tactic(auto, unfolding(up_model::specs::Due::effect), using(up_cascade::proofs::Entries::one_last))]
 pub(crate) fn take_request<B: Book>(
     alloc: Global,

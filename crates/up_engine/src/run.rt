@@ -2,7 +2,7 @@
 use up_model::Step;
 use up_text::Items;
 
-/// What a run answered: one step for each input, in order. Where `down`, the input after the last step was refused memory, and the
+/// The answers of a run: one step for each input, in order. If `down`, the input after the last step ran out of memory, and the
 /// engine is down.
 #[derive(Drop)]
 pub struct Run {

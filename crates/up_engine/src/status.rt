@@ -1,4 +1,4 @@
-//! What clients are told of instances: `status` and `list`.
+//! The status of instances, for clients: `status` and `list`.
 ghost use Rattle.std.specs.Prelude.{◌≡◌, ◌==◌, ℕ, List, ◌∷◌, [], ◌++◌, Some, IfOk, OnOk, string_bytes, if◌then◌else◌};
 ghost use Rattle.up_book.specs.Keys.{Mode, name_at, instance_place};
 ghost use Rattle.up_engine.specs.Requests.{target_of as said_of, IsIndexed, answer_of};
@@ -86,7 +86,6 @@ fn push_status<B: Book>(book: &B, key: InstanceKey, lines: &mut Vec<Text>) -> Re
     Ok(())
 }
 
-// Adds a line for each instance of a job.
 fn add_statuses<B: Book>(book: &B, job: usize, lines: &mut Vec<Text>) -> Result<(), AllocError>
     ensures { OnOk result ((mode : Mode) (config : Configuration) (c : Chronicle) (its : Bytes)
         → B.stands book.now mode config c → name_at config job ≡ Some its
@@ -150,7 +149,6 @@ fn add_job<B: Book>(
     Ok(())
 }
 
-// The lines about all jobs.
 fn lines_of<B: Book>(alloc: Global, setup: &Setup, book: &B) -> Result<Vec<Text>, AllocError>
     ensures { IfOk result (λ lines. (mode : Mode) (c : Chronicle) → B.stands book.now mode setup.now c
         → lines.items ≡ model.list_lines setup.now (job_names setup.now.jobs) c) }

@@ -14,7 +14,7 @@ use up_book::Book;
 use up_cascade::{Setup, hear_all, settle_alone, settle_jobs};
 use up_model::Input;
 
-/// Takes an input in that is no load, and then does what is due until nothing is. Nothing was due before.
+/// Takes an input other than a load, and then does what is due until nothing is. Nothing was due before.
 #[tactic(auto, unfolding(up_cascade::specs::Settling::after_in))]
 pub(crate) fn run_step<B: Book>(
     alloc: Global,

@@ -1,4 +1,4 @@
-//! Whom a request names.
+//! The job and the instance that a request names.
 ghost use Rattle.std.specs.Prelude.{◌≡◌, ◌&&◌, length, not, Some, IfOk};
 ghost use Rattle.up_book.specs.Keys.{Mode, job_at};
 ghost use Rattle.up_conf.specs.declared.job.JobDef.{JobDef as JobValue};
@@ -18,12 +18,12 @@ use up_image::JobFile;
 use up_model::{JobDef, Who};
 use up_text::{Env, Expanded, Text, TextFault, expand};
 
-/// Whom a request names.
+/// The job and the instance that a request names.
 #[derive(Drop)]
 pub(crate) enum Target<'a> {
-    /// Nobody, which this text says.
+    /// Nobody, with the text that reports it.
     Nobody(Text),
-    /// An instance that there may be of a job, which has this index, and the environment that a start would give it.
+    /// A possible instance of the job at this index, and the environment of its start.
     Concerns {
         index: usize,
         file: &'a JobFile,
@@ -48,7 +48,7 @@ fn who_of(job: &JobDef, instance: Text) -> Result<Who, AllocError>
     Ok(Who { job, instance })
 }
 
-// The instance whose name this environment gives.
+// The instance that this environment names.
 fn target_in<'a, B: Book>(
     alloc: Global,
     setup: &Setup,
@@ -93,7 +93,7 @@ fn target_in<'a, B: Book>(
     }
 }
 
-// The job of this name, removed or not, and the instance whose name these variables give.
+// The job of this name, removed or not, and the instance that these variables name.
 fn named_target<'a, B: Book>(
     alloc: Global,
     setup: &'a Setup,
@@ -115,7 +115,6 @@ fn named_target<'a, B: Book>(
     }
 }
 
-// How many instances the job of this name has.
 fn count_of<B: Book>(setup: &Setup, book: &B, name: &str) -> usize
     ensures { (mode : Mode) (c : Chronicle) → B.stands book.now mode setup.now c
         → result ≡ length (instances_of name.now c) }
@@ -134,7 +133,7 @@ fn is_gone<B: Book>(setup: &Setup, book: &B, name: &str) -> bool
     setup.is_removed(name) && count_of(setup, book, name) == 0
 }
 
-/// The job of this name, unless it was removed, and the instance whose name these variables give.
+/// The job of this name, unless it was removed, and the instance that these variables name.
 pub(crate) fn target_of<'a, B: Book>(
     alloc: Global,
     setup: &'a Setup,
@@ -153,7 +152,7 @@ pub(crate) fn target_of<'a, B: Book>(
     Ok(target)
 }
 
-/// The same for a request that starts nothing, which knows a job that was removed while it has an instance.
+/// The same for a request that starts nothing: it knows a removed job as long as that has an instance.
 pub(crate) fn known_target<'a, B: Book>(
     alloc: Global,
     setup: &'a Setup,

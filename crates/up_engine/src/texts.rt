@@ -1,4 +1,4 @@
-//! What clients are told when a request is refused, and of jobs without instances.
+//! The texts for clients when a request is refused, and about jobs without instances.
 ghost use Rattle.std.specs.Prelude.{[], ◌≡◌, ◌++◌, codes, IfOk};
 ghost use Rattle.std.specs.Fmt.{decimal};
 ghost use Rattle.up_model.specs.Commands as model;

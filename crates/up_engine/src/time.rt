@@ -1,4 +1,4 @@
-//! What the timer does.
+//! The effect of the timer.
 ghost use Rattle.std.specs.Prelude.{◌≡◌, ℕ, false, List, ◌∷◌, ◌++◌, [], map, Some, IsOk, IfOk, OnOk};
 ghost use Rattle.up_book.specs.Keys.{name_at, Mode, Stepping, instance_place};
 ghost use Rattle.up_conf.specs.declared.job.JobDef.{JobDef as JobValue};
@@ -86,7 +86,7 @@ fn all_overdue<B: Book>(
     Ok(keys)
 }
 
-// Main of each of these is sent KILL.
+// Sends KILL to the main process of each of these.
 fn kill_each<B: Book>(book: &mut B, keys: &[InstanceKey]) -> Result<(), AllocError>
     ensures after { OnOk result ((config : Configuration) (c : Chronicle) (places : List ℕ)
         → B.stands book.old Stepping config c

@@ -1,4 +1,4 @@
-//! Checks a folder: what its faults are, and how many jobs it has.
+//! Checks a folder: prints its faults and the number of its jobs.
 ghost use Rattle.std.specs.Prelude.{◌≡◌, ◌++◌, Err, IfOk, OnErr, OnOk};
 ghost use Rattle.up_image.specs.declared.refusal.CompileError.TheVariants.{Memory};
 ghost use Rattle.up_print.specs.Folders.{check_output, compile_outcome, count_line, faults_output, table_of, Checks, ChecksExplained, ExplainsOutcome, Graphs, graph_output, IsCompiled, IsTable, PrintsFaults};
@@ -11,7 +11,7 @@ use up_conf::{Folder, Report};
 use up_image::{CompileError, Table, compile};
 use up_text::Items;
 
-// What was compiled, or why it is refused; out of memory only if that is the reason.
+// The compiled table, or the reason for its refusal; out of memory becomes an error.
 fn unless_memory(
     made: Result<(Table, Report), CompileError>,
 ) -> Result<Result<(Table, Report), CompileError>, AllocError>
@@ -27,7 +27,7 @@ fn unless_memory(
     }
 }
 
-// The jobs and the faults of a folder, or why it is refused.
+// The jobs and the faults of a folder, or the reason for its refusal.
 fn compile_outcome(
     alloc: Global,
     folder: &Folder,
@@ -77,7 +77,7 @@ fn table_of(made: Result<(Table, Report), CompileError>) -> Option<Table>
     }
 }
 
-/// What a check of a folder prints, and the table of its jobs, unless the folder is refused.
+/// The output of a folder's check, and the table of its jobs, unless the folder is refused.
 pub fn check_and_compile(
     alloc: Global,
     folder: &Folder,
@@ -110,7 +110,7 @@ fn render_faults(
     }
 }
 
-/// What is printed of a folder before its jobs run: the faults of its files. And the table of its jobs, unless the folder is refused.
+/// The output for a folder before its jobs run: the faults of its files. And the table of its jobs, unless the folder is refused.
 pub fn faults_and_compile(
     alloc: Global,
     folder: &Folder,
@@ -124,7 +124,7 @@ pub fn faults_and_compile(
     Ok((printed, table))
 }
 
-/// What a check of a folder prints: the faults of its files, and how many jobs and faults there are.
+/// The output of a folder's check: the faults of its files, and the numbers of jobs and faults.
 pub fn check(alloc: Global, folder: &Folder) -> Result<Printed, AllocError>
     ensures { IfOk result (Checks folder.now) }
 {
@@ -132,7 +132,7 @@ pub fn check(alloc: Global, folder: &Folder) -> Result<Printed, AllocError>
     render_made(alloc, &made)
 }
 
-// What is printed of a folder's files that explains their faults.
+// The output for a folder's files that explains their faults.
 fn render_explained(
     alloc: Global,
     folder: &Folder,
@@ -153,7 +153,7 @@ fn render_explained(
     }
 }
 
-/// What a check of a folder prints that explains the faults: below each the line at fault, and what to do.
+/// The output of a folder's check that explains the faults: below each the line at fault, and what to do.
 pub fn check_explained(alloc: Global, folder: &Folder) -> Result<Printed, AllocError>
     ensures { IfOk result (ChecksExplained folder.now) }
 {

@@ -1,4 +1,4 @@
-//! What is printed of a folder of job files, and of the steps of a run.
+//! The output for a folder of job files, and for the steps of a run.
 #![tactic(auto)]
 
 pub mod check;

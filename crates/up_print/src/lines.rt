@@ -10,7 +10,6 @@ use up_conf::signal_name;
 use up_model::{Answer, Event, Order, Output, Step, Who, process_name};
 use up_text::{Env, Text};
 
-/// Appends a text.
 pub(crate) fn push(text: &mut Vec<u8>, more: &str) -> Result<(), AllocError>
     ensures { OnOk result (text.new.items ≡ text.old.items ++ more.now) }
 {
@@ -202,7 +201,6 @@ fn push_reply(text: &mut Vec<u8>, id: u64, answer: &Answer) -> Result<(), AllocE
     push(text, "\n")
 }
 
-/// Appends the lines of an output.
 pub fn push_output(text: &mut Vec<u8>, output: &Output) -> Result<(), AllocError>
     ensures { OnOk result (text.new.items ≡ text.old.items ++ output_lines output.now) }
 {
@@ -214,7 +212,6 @@ pub fn push_output(text: &mut Vec<u8>, output: &Output) -> Result<(), AllocError
     }
 }
 
-/// Appends the lines of outputs.
 pub fn push_outputs(text: &mut Vec<u8>, outputs: &[Output]) -> Result<(), AllocError>
     ensures { OnOk result (text.new.items ≡ text.old.items ++ flat_map output_lines outputs.now) }
 {
@@ -224,7 +221,6 @@ pub fn push_outputs(text: &mut Vec<u8>, outputs: &[Output]) -> Result<(), AllocE
     Ok(())
 }
 
-/// Appends the lines of a step.
 pub fn push_step(text: &mut Vec<u8>, step: &Step) -> Result<(), AllocError>
     ensures { OnOk result (text.new.items ≡ text.old.items ++ step_lines step.now) }
 {
@@ -234,7 +230,7 @@ pub fn push_step(text: &mut Vec<u8>, step: &Step) -> Result<(), AllocError>
     }
 }
 
-/// Appends the line of a bad step of the script with this name.
+/// Appends the line for a bad step of the script with this name.
 #[tactic(auto, unfolding(crate::specs::Lines::bad_statement_line))]
 pub fn push_bad_step(text: &mut Vec<u8>, name: &str, line: u32) -> Result<(), AllocError>
     ensures { OnOk result (text.new.items ≡ text.old.items ++ bad_statement_line name.now line) }

@@ -1,4 +1,4 @@
-//! What the program prints, and its status.
+//! The output of the program, and its exit status.
 ghost use Rattle.std.specs.Prelude.{◌≡◌, ◌++◌, IfOk, OnOk, List, codes, ℕ};
 ghost use Rattle.std.specs.Fmt.{decimal};
 ghost use Rattle.std.specs.List.{flat_map};
@@ -13,7 +13,7 @@ use up_image::{CompileError, ImageError};
 use up_model::ExitStatus;
 use up_text::Items;
 
-/// What is printed, and the status.
+/// The output, and the exit status.
 #[derive(Debug, Drop)]
 pub struct Printed {
     pub text: Items<u8>,
@@ -43,7 +43,7 @@ pub(crate) fn push_faults(text: &mut Vec<u8>, faults: &[Fault]) -> Result<(), Al
     Ok(())
 }
 
-// The same, with what is said of each fault below its line.
+// The same, with an explanation of each fault below its line.
 pub(crate) fn push_explained(
     text: &mut Vec<u8>,
     files: &[File],
@@ -69,7 +69,7 @@ pub(crate) fn status_of(report: &Report) -> ExitStatus
     }
 }
 
-// The line of a refusal by its number and its reason.
+// The line for a refusal, by its number and its reason.
 fn refusal(alloc: Global, number: u8, reason: &str) -> Result<Printed, AllocError>
     ensures { IfOk result (λ made. made
         ≡ prints (codes "initd: " ++ decimal number ++ codes " " ++ reason.now ++ codes "\n") Unusable) }
@@ -87,7 +87,6 @@ fn refusal(alloc: Global, number: u8, reason: &str) -> Result<Printed, AllocErro
     })
 }
 
-/// The line of a refused folder.
 #[tactic(auto, unfolding(crate::specs::Folders::refusal_line))]
 pub(crate) fn refused(alloc: Global, error: CompileError) -> Result<Printed, AllocError>
     ensures { IfOk result (λ made. made ≡ prints (refusal_line error) Unusable) }
@@ -95,7 +94,7 @@ pub(crate) fn refused(alloc: Global, error: CompileError) -> Result<Printed, All
     refusal(alloc, error.number(), error.name())
 }
 
-/// The line of an image that is refused, or of a table that has none.
+/// The line for an image that is refused, or for a table that can't have one.
 #[tactic(auto, unfolding(crate::specs::Folders::image_refusal_line))]
 pub fn image_refused(alloc: Global, error: ImageError) -> Result<Printed, AllocError>
     ensures { IfOk result (λ made. made ≡ prints (image_refusal_line error) Unusable) }
@@ -103,7 +102,7 @@ pub fn image_refused(alloc: Global, error: ImageError) -> Result<Printed, AllocE
     refusal(alloc, error.number(), error.name())
 }
 
-/// The line of what can't be read or written.
+/// The line for a path that can't be read or written.
 #[tactic(auto, unfolding(crate::specs::Folders::unusable))]
 pub fn cannot_use(alloc: Global, name: &str) -> Result<Printed, AllocError>
     ensures { IfOk result (λ made. made ≡ prints (unusable name.now) Unusable) }

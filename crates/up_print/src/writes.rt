@@ -1,4 +1,4 @@
-//! Writes what is printed, as far as a writer takes it.
+//! Writes output, as far as a writer takes it.
 ghost use Rattle.std.specs.Prelude.{◌≡◌, ◌⊎◌, ◌≤◌, ◌<◌, true, length, take, MatchOption};
 ghost use Rattle.std.specs.Io.KnownBytes.{Appends, Keeps};
 ghost use Rattle.up_model.specs.ExitStatuses.{status_number};
@@ -9,7 +9,7 @@ use crate::printed::Printed;
 use std::io::{ErrorKind, Write};
 use up_model::ExitStatus;
 
-// Writes some of these bytes, the first ones, and returns how many: none if it was interrupted. No count if the writer failed or takes
+// Writes a prefix of these bytes, and returns its length: 0 if the writer was interrupted. None if the writer failed or takes
 // no more.
 fn write_some<W: Write>(writer: &mut W, bytes: &[u8]) -> Option<usize>
     ensures { MatchOption result (Keeps (W.contents writer.old) (W.contents writer.new))
@@ -29,7 +29,7 @@ fn write_some<W: Write>(writer: &mut W, bytes: &[u8]) -> Option<usize>
     }
 }
 
-// Writes these bytes, from the first on. False if the writer fails or takes no more.
+// Writes all of these bytes. False if the writer fails or takes no more.
 fn write_bytes<W: Write>(writer: &mut W, bytes: &[u8]) -> bool
     ensures all { result ≡ true → Appends (W.contents writer.old) (W.contents writer.new) bytes.now }
     ensures begun { IsBegun (W.contents writer.old) (W.contents writer.new) bytes.now }
@@ -47,7 +47,7 @@ fn write_bytes<W: Write>(writer: &mut W, bytes: &[u8]) -> bool
     false
 }
 
-/// Writes what is printed, and returns the status: `Unusable` if it can't be written, and then only the first bytes were.
+/// Writes the output, and returns the status: `Unusable` if it can't be written in full.
 pub fn write_printed<W: Write>(writer: &mut W, made: &Printed) -> ExitStatus
     ensures written { status_number result < 3 → (result ≡ made.now.status)
         × Appends (W.contents writer.old) (W.contents writer.new) made.now.text }

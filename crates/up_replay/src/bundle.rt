@@ -14,7 +14,7 @@ use up_script::{Bundle, ScriptInputs, read_bundle, read_inputs_with};
 /// A bundle whose folders are compiled.
 #[derive(Drop)]
 pub struct BundleRun {
-    /// What the faults of all folders print.
+    /// The output for the faults of all folders.
     pub faults: Printed,
     /// The jobs of the first folder.
     pub table: Table,
@@ -38,7 +38,7 @@ fn inputs_in(
     }
 }
 
-// What is to be run once all folders are compiled.
+// The run of a bundle whose folders are all compiled.
 fn run_all(
     alloc: Global,
     bundle: &Bundle<'_>,
@@ -65,7 +65,7 @@ fn run_all(
     })
 }
 
-// What is to be run once the first folder is compiled.
+// The run of a bundle whose first folder is compiled.
 #[tactic(auto, using(crate::proofs::Compiling::later_made, crate::proofs::Compiling::later_refused))]
 fn compile_later(
     alloc: Global,
@@ -95,7 +95,7 @@ fn compile_later(
     }
 }
 
-// What is to be run of a bundle that was read.
+// The run of a bundle that was read.
 fn compile_read(
     alloc: Global,
     bundle: &Bundle<'_>,
@@ -111,7 +111,7 @@ fn compile_read(
     }
 }
 
-/// What is to be run of the bytes of a bundle, which has 64 MiB at most; or what is printed since one of its folders is refused.
+/// The run of the bytes of a bundle, at most 64 MiB; or the output if one of its folders is refused.
 #[tactic(auto, using(up_script::proofs::Sizes::script_small, crate::proofs::Compiling::bundle_compiled))]
 pub fn compile_bundle(alloc: Global, bytes: &[u8]) -> Result<Result<BundleRun, Printed>, AllocError>
     requires { length bytes.now ≤ MAX_BUNDLE }

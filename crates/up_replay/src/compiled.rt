@@ -11,14 +11,14 @@ use up_print::Printed;
 use up_print::check::faults_and_compile;
 use up_text::Items;
 
-/// Folders that were compiled: what their faults print, and their tables, in order.
+/// Compiled folders: the output for their faults, and their tables, in order.
 #[derive(Drop)]
 pub(crate) struct Compiled {
     pub faults: Printed,
     pub tables: VecDeque<Table>,
 }
 
-/// What is printed of a folder's faults, and the table of its jobs, unless the folder is refused.
+/// The output for a folder's faults, and the table of its jobs, unless the folder is refused.
 pub(crate) fn compile(
     alloc: Global,
     folder: &Folder,
@@ -37,7 +37,7 @@ fn status_with(status: ExitStatus, more: ExitStatus) -> ExitStatus
     }
 }
 
-/// What the faults of folders print, and after it what those of more print.
+/// The output for the faults of some folders, followed by that for more.
 pub(crate) fn joined(first: Printed, more: &Printed) -> Result<Printed, AllocError>
     ensures { IfOk result (λ made. made ≡ joined first more.now) }
 {
@@ -62,7 +62,7 @@ fn with_table(found: Compiled, faults: Printed, table: Table) -> Result<Compiled
     Ok(Compiled { faults, tables })
 }
 
-// The same with one folder more, or what is printed of it if it is refused.
+// The same with one more folder, or the output for it if it is refused.
 #[tactic(auto, using(crate::proofs::Compiling::adds_some, crate::proofs::Compiling::adds_none))]
 fn with_folder(
     alloc: Global,
@@ -81,7 +81,7 @@ fn with_folder(
     }
 }
 
-/// These folders compiled, or what is printed of the first that is refused.
+/// These folders compiled, or the output for the first that is refused.
 pub(crate) fn compile_all(
     alloc: Global,
     folders: &[Folder],

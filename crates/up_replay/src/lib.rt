@@ -1,4 +1,4 @@
-//! What is printed for a folder of job files, and for a script of what happens to its jobs.
+//! The output for a folder of job files, and for a script of what happens to its jobs.
 #![tactic(auto)]
 
 mod bundle;

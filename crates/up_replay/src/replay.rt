@@ -27,7 +27,7 @@ use up_script::ScriptInputs;
 use up_script::bundle::MAX_BUNDLE;
 use up_text::{Env, Items};
 
-// What a run of a table's jobs gives.
+// The output of a run of a table's jobs.
 fn push_all(
     text: &mut Vec<u8>,
     alloc: Global,
@@ -42,7 +42,7 @@ fn push_all(
     push_run(text, alloc, table, base, inputs)
 }
 
-// A folder's faults, and after them what a run of its jobs gives, or the first bad line of the script.
+// A folder's faults, followed by the output of a run of its jobs, or by the first bad line of the script.
 fn play(
     alloc: Global,
     faults: Printed,
@@ -73,7 +73,7 @@ fn play(
     }
 }
 
-/// What is printed for a folder and the inputs of a script with this name, or the script's first bad line. Each process gets the base
+/// The output for a folder and the inputs of a script with this name, or the script's first bad line. Each process gets the base
 /// environment.
 pub fn render_folder(
     alloc: Global,
@@ -91,7 +91,7 @@ pub fn render_folder(
     }
 }
 
-/// What is printed for a bundle with this name that is compiled. Each process gets the base environment.
+/// The output for a compiled bundle with this name. Each process gets the base environment.
 pub fn play_run(alloc: Global, run: BundleRun, base: Env, name: &str) -> Result<Printed, AllocError>
     ensures { IfOk result (λ made. made ≡ play_run base name.now run) }
 {
@@ -103,7 +103,7 @@ pub fn play_run(alloc: Global, run: BundleRun, base: Env, name: &str) -> Result<
     play(alloc, faults, table, base, name, read)
 }
 
-// What is printed for the bytes of a bundle that isn't too long.
+// The output for the bytes of a bundle that isn't too long.
 #[tactic(auto, using(crate::proofs::Limits::prints_run))]
 fn play_bytes(alloc: Global, bytes: &[u8], base: Env, name: &str) -> Result<Printed, AllocError>
     requires { length bytes.now ≤ MAX_BUNDLE }
@@ -122,7 +122,7 @@ fn play_bytes(alloc: Global, bytes: &[u8], base: Env, name: &str) -> Result<Prin
     }
 }
 
-/// What is printed for the bytes of a bundle with this name. Each process gets the base environment.
+/// The output for the bytes of a bundle with this name. Each process gets the base environment.
 #[tactic(auto, using(crate::proofs::Limits::prints_long))]
 pub fn play_bundle(
     alloc: Global,
@@ -139,7 +139,7 @@ pub fn play_bundle(
     play_bytes(alloc, bytes, base, name)
 }
 
-/// What is printed for the bytes of a bundle on standard input.
+/// The output for the bytes of a bundle on standard input.
 pub fn render_bundle(alloc: Global, bytes: &[u8]) -> Result<Printed, AllocError>
     ensures { IfOk result (Prints [] (codes "-") bytes.now) }
 {
@@ -157,7 +157,7 @@ fn read_all<R: Read>(alloc: Global, reader: &mut R) -> io::Result<Vec<u8>>
     Ok(bytes)
 }
 
-// Says that the bundle can't be read, and returns the status.
+// Reports that the bundle can't be read, and returns the status.
 fn write_unreadable<W: Write>(alloc: Global, writer: &mut W) -> ExitStatus
     ensures status { (result ≡ Unusable) ⊎ (result ≡ Memory) }
     ensures begun { result ≡ Unusable → IsBegun (W.contents writer.old) (W.contents writer.new) (unusable (codes "-")) }
@@ -168,8 +168,8 @@ fn write_unreadable<W: Write>(alloc: Global, writer: &mut W) -> ExitStatus
     }
 }
 
-/// Reads a bundle, writes what is printed for it and returns the status: `Failed` with faulty files; `Usage` at a bad step; `Unusable` if
-/// the folder is refused or the bundle can't be read or written; `Memory` if memory ran out.
+/// Reads a bundle, writes the output for it and returns the status: `Failed` with faulty files; `Usage` at a bad step; `Unusable` if
+/// the folder is refused or the bundle can't be read or written; `Memory` if out of memory.
 pub fn replay_bundle<R: Read, W: Write>(alloc: Global, reader: &mut R, writer: &mut W) -> ExitStatus
     ensures { IfSome (R.remaining reader.old) (λ bytes. Replays bytes (status_number result)
         (W.contents writer.old) (W.contents writer.new)) }
@@ -189,7 +189,7 @@ pub fn replay_bundle<R: Read, W: Write>(alloc: Global, reader: &mut R, writer: &
     }
 }
 
-/// Reads a bundle, writes what is printed for it and returns the number of the status.
+/// Reads a bundle, writes the output for it and returns the number of the status.
 pub fn replay<R: Read, W: Write>(alloc: Global, reader: &mut R, writer: &mut W) -> u8
     ensures { IfSome (R.remaining reader.old)
         (λ bytes. Replays bytes result (W.contents writer.old) (W.contents writer.new)) }

@@ -4,7 +4,7 @@ ghost use Rattle.std.specs.Prelude.{◌≡◌, IfOk, IfSome};
 use std::alloc::{AllocError, Global};
 use up_image::{ImageError, Table};
 
-// The table that is read from a table's image, if one is.
+// The table that is read from a table's image; none if it has no image or that can't be read.
 #[tactic(auto, using(crate::proofs::Rereading::same_table))]
 fn read_again(alloc: Global, table: &Table) -> Result<Option<Table>, AllocError>
     ensures { IfOk result (λ read. IfSome read (λ again. again ≡ table.now)) }
@@ -20,7 +20,7 @@ fn read_again(alloc: Global, table: &Table) -> Result<Option<Table>, AllocError>
     }
 }
 
-/// The same table, by way of its image. If that isn't read, the table stays the one that it is.
+/// The same table, by way of its image; if the image can't be read, the table itself.
 pub(crate) fn reread(alloc: Global, table: Table) -> Result<Table, AllocError>
     ensures { IfOk result (λ same. same ≡ table) }
 {

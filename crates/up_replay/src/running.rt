@@ -1,4 +1,4 @@
-//! Runs the inputs of a script, and prints what they give.
+//! Runs the inputs of a script, and prints their outputs.
 ghost use Rattle.std.specs.Prelude.{◌≡◌, [], ◌++◌, OnOk, replicate};
 ghost use Rattle.std.specs.List.{flat_map};
 ghost use Rattle.up_engine.specs.Stands.{Stands};
@@ -18,7 +18,6 @@ use up_print::push_step;
 use up_script::scripted::{ScriptInputs, StepInputs};
 use up_text::Env;
 
-// The lines of the answer to one input.
 fn push_answer(text: &mut Vec<u8>, engine: &mut Engine, given: Input) -> Result<(), AllocError>
     ensures lines { OnOk result ((config : Configuration) (c : Chronicle) → Stands engine.old config c
         → text.new.items ≡ text.old.items ++ step_lines (answer config c given)) }
@@ -31,7 +30,7 @@ fn push_answer(text: &mut Vec<u8>, engine: &mut Engine, given: Input) -> Result<
     }
 }
 
-// The lines of the answers to so many turns. Once a turn finds no event, those after it find none either.
+// The lines of the answers to this many turns. Once a turn finds no event, those after it find none either.
 fn push_turns(text: &mut Vec<u8>, engine: &mut Engine, count: u64) -> Result<(), AllocError>
     ensures { OnOk result ((config : Configuration) (c : Chronicle) → Stands engine.old config c
         → Tells text.old.items text.new.items engine.new config c (replicate count input.Turn)) }
@@ -46,7 +45,6 @@ fn push_turns(text: &mut Vec<u8>, engine: &mut Engine, count: u64) -> Result<(),
     Ok(())
 }
 
-// The lines of the answers to what a step of a script gives.
 fn push_step_answers(
     text: &mut Vec<u8>,
     engine: &mut Engine,
@@ -63,7 +61,6 @@ fn push_step_answers(
     Ok(())
 }
 
-// The lines of the answers to the inputs of a script.
 fn push_answers(
     text: &mut Vec<u8>,
     engine: &mut Engine,
@@ -78,7 +75,7 @@ fn push_answers(
     Ok(())
 }
 
-/// Appends the lines of a run from nothing.
+/// Appends the lines of a run of a new engine.
 pub(crate) fn push_run(
     text: &mut Vec<u8>,
     alloc: Global,

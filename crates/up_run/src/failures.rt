@@ -1,4 +1,4 @@
-//! Says on standard error why jobs failed.
+//! Reports on standard error why jobs failed.
 use std::fmt::Display;
 use std::io;
 use std::io::{Eprint, ErrorKind};
@@ -8,7 +8,7 @@ use up_edge::Refusal;
 use up_model::{Event, Input, Output, Process, Who, process_name};
 use up_text::Env;
 
-// Says something of an instance. One without a name is its job.
+// Reports something about an instance. One without a name is shown as its job.
 fn say_of<R: Eprint>(rt: &R, job: &str, instance: &str, what: &str) {
     if instance.is_empty() {
         let _ = eprintln!(rt; "initd: {job}: {what}");
@@ -17,7 +17,7 @@ fn say_of<R: Eprint>(rt: &R, job: &str, instance: &str, what: &str) {
     }
 }
 
-// Says the same of a process of it, with a reason, a number or a name at the end.
+// Reports the same about one of its processes, with a reason, a number or a name at the end.
 fn say_process<R: Eprint, D: Display + Drop>(
     rt: &R,
     (job, instance): (&str, &str),
@@ -38,7 +38,7 @@ fn is_of(refusal: &Refusal, who: &Who, process: Process) -> bool {
         && refusal.who.instance.as_str() == who.instance.as_str()
 }
 
-// Says that a process couldn't be started, for the reason that the host kept. It keeps one unless memory ran out.
+// Reports that a process couldn't be started, for the reason that the host kept. It keeps one unless out of memory.
 fn say_refusal<R: Eprint>(rt: &R, who: &Who, process: Process, refusals: &[Refusal]) {
     let place = (who.job.as_str(), who.instance.as_str());
     let mut error = io::Error::from(ErrorKind::OutOfMemory);
@@ -51,7 +51,7 @@ fn say_refusal<R: Eprint>(rt: &R, who: &Who, process: Process, refusals: &[Refus
     say_process(rt, place, process, "couldn't be started:", Reason(error));
 }
 
-// Says how a job failed that an event `stopping` reports as failed. A refused start is said already.
+// Reports how a job failed, by an event `stopping` with a failure. A refused start was reported already.
 fn say_failed<R: Eprint>(rt: &R, vars: &Env) {
     let job = vars.get("JOB").unwrap_or("");
     let instance = vars.get("INSTANCE").unwrap_or("");
@@ -82,7 +82,7 @@ fn say_event<R: Eprint>(rt: &R, event: &Event) {
     }
 }
 
-/// Says of a round which processes couldn't be started, with the reasons that the host kept, and which jobs failed.
+/// Reports which processes couldn't be started in a round, with the reasons that the host kept, and which jobs failed.
 pub(crate) fn say_failures<R: Eprint>(rt: &R, round: &Round, refusals: &[Refusal]) {
     for input in round.fed.as_slice() {
         if let Input::Refused { who, process } = input {

@@ -1,4 +1,4 @@
-//! Which calls of the host, the door and the source failed in a round, as comments for who reads what happens.
+//! Which calls of the host, the door and the source failed in a round, as comments for readers of the output.
 ghost use Rattle.std.specs.Prelude.{◌≡◌, ◌-◌, ◌++◌, not, IfOk, OnOk};
 ghost use Rattle.std.specs.Fmt.{decimal};
 ghost use Rattle.std.specs.List.{count_by, flat_map, list_any};
@@ -20,7 +20,6 @@ pub(crate) struct HostFaults {
 }
 
 impl HostFaults {
-    /// Whether some call failed.
     pub(crate) fn are_some(&self) -> bool
         ensures { result ≡ are_some self.now }
     {
@@ -47,7 +46,7 @@ fn is_refusal(input: &Input) -> bool
     matches!(input, Input::Refused { who: _, process: _ })
 }
 
-// How many calls failed, if one did.
+// 1 if a call failed, else 0.
 fn number(failed: bool) -> u64
     ensures { result ≡ number failed }
 {
@@ -66,7 +65,6 @@ fn refusals(fed: &[Input]) -> u64
     count
 }
 
-// Whether the clock was read.
 fn has_reading(happened: &[Happened]) -> bool
     ensures { result ≡ list_any is_reading happened.now }
 {
@@ -80,7 +78,7 @@ fn has_last_poll(happened: &[Happened]) -> bool
     happened.iter().any(|entry| is_last_poll(entry))
 }
 
-/// The calls that failed in a round with these inputs and this record, if the host counted so many. A round reads the clock once and
+/// The calls that failed in a round with these inputs and this record, `counted` in all. A round reads the clock once and
 /// looks for ends until none is found, and each start that failed was fed. The others were signals.
 pub(crate) fn host_faults(fed: &[Input], happened: &[Happened], counted: u64) -> HostFaults
     ensures clock { result.clock ≡ not (list_any is_reading happened.now) }
@@ -103,7 +101,6 @@ pub(crate) fn host_faults(fed: &[Input], happened: &[Happened], counted: u64) ->
     }
 }
 
-// The name of a door's call.
 fn call_name(call: DoorCall) -> &'static str
     ensures { result.now ≡ call_name call }
 {
@@ -139,7 +136,7 @@ fn push_line(text: &mut Vec<u8>, whose: &str, call: &str) -> Result<(), AllocErr
     push(text, "\n")
 }
 
-// The same line for each of so many calls.
+// The same line for each of `count` calls.
 fn push_lines(text: &mut Vec<u8>, whose: &str, call: &str, count: u64) -> Result<(), AllocError>
     ensures { OnOk result (text.new.items
         ≡ text.old.items ++ repeated count (fault_line whose.now call.now)) }
@@ -193,7 +190,7 @@ fn none_failed(host: u64, door: u64, source: u64) -> bool
     host == 0 && door == 0 && source == 0
 }
 
-/// The comment that a run ends with in which calls failed: how many of the host, of the door and of the source.
+/// The comment at the end of a run in which calls failed: how many of the host, of the door and of the source.
 #[tactic(auto, unfolding(crate::specs::Faults::fault_count))]
 pub(crate) fn fault_count(
     alloc: Global,

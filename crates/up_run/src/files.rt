@@ -1,11 +1,11 @@
-//! The files to which a run tells what happens.
+//! The files to which a run is reported.
 use std::fs::File;
 use std::io;
 use std::io::{Eprint, ErrorKind};
 use std::rt::Files;
 use up_disk::why::{say, say_error};
 
-// A file that wasn't there, or one that is emptied if it is there.
+// A new file; with `over` an existing one is emptied.
 fn open<R: Files>(rt: &R, path: &str, over: bool) -> io::Result<R::File> {
     if over {
         File::create(rt, path)
@@ -14,8 +14,8 @@ fn open<R: Files>(rt: &R, path: &str, over: bool) -> io::Result<R::File> {
     }
 }
 
-/// The file of a record, if one is asked for. One that is there is emptied if `over`, and refused if not. None if it can't be made, and
-/// then it is said why.
+/// The file of a record, if one is asked for. An existing one is emptied if `over`, and else refused. None if it can't be made; the
+/// reason is then reported.
 pub(crate) fn open_file<R: Files + Eprint>(
     rt: &R,
     path: Option<&str>,

@@ -1,11 +1,11 @@
-//! The comment with which a record begins: the command that replays it.
+//! The comment at the start of a record: the command that replays it.
 ghost use Rattle.std.specs.Prelude.{◌≡◌, ◌++◌, IfOk, OnOk};
 ghost use Rattle.std.specs.List.{flat_map, list_all};
 ghost use Rattle.up_run.specs.Heads.{bundle_head, is_plain, log_head, quoted, stands_bare, word};
 
 use std::alloc::{AllocError, Global};
 
-// Whether a shell takes the byte as it is (sh(1), "Quoting").
+// Whether a byte needs no quotes in a shell (sh(1), "Quoting").
 fn is_plain(byte: u8) -> bool
     ensures { result ≡ is_plain byte }
 {
@@ -39,7 +39,6 @@ fn are_all_plain(bytes: &[u8]) -> bool
     bytes.iter().all(|byte| is_plain(*byte))
 }
 
-// Whether a word needs no quotes.
 fn stands_bare(bytes: &[u8]) -> bool
     ensures { result ≡ stands_bare bytes.now }
 {
@@ -61,7 +60,7 @@ fn push_word(text: &mut Vec<u8>, path: &str) -> Result<(), AllocError>
     Ok(())
 }
 
-/// The comment with which a record begins: the command that replays it, whose words a shell reads as they are.
+/// The comment at the start of a record: the command that replays it, whose words a shell reads as they are.
 #[tactic(auto, unfolding(crate::specs::Heads::log_head))]
 pub(crate) fn log_head(
     alloc: Global,
@@ -82,7 +81,7 @@ pub(crate) fn log_head(
     Ok(text)
 }
 
-/// The comment with which the script of a record that is a bundle begins: the command that replays it.
+/// The comment at the start of the script of a record that is a bundle: the command that replays it.
 #[tactic(auto, unfolding(crate::specs::Heads::bundle_head))]
 pub(crate) fn bundle_head(alloc: Global, log: &str, path: &str) -> Result<Vec<u8>, AllocError>
     ensures { IfOk result (λ text. text.items ≡ bundle_head log.now path.now) }

@@ -16,14 +16,14 @@ use up_print::check::faults_and_compile;
 use up_print::{Printed, cannot_use, image_refused};
 use up_text::Items;
 
-/// The jobs of a run, with what is printed before it; without a table there is no run.
+/// The jobs of a run, with the output before it; without a table there is no run.
 #[derive(Drop)]
 pub(crate) struct Jobs {
     pub(crate) printed: Printed,
     pub(crate) table: Option<Table>,
 }
 
-// What is printed in place of a run.
+// The output in place of a run.
 fn no_run(printed: Result<Printed, AllocError>) -> Result<Jobs, AllocError>
     ensures { IfOk result (λ jobs. (jobs.table ≡ None) × (printed ≡ Ok jobs.printed)) }
 {
@@ -34,7 +34,7 @@ fn no_run(printed: Result<Printed, AllocError>) -> Result<Jobs, AllocError>
     })
 }
 
-// The jobs of a folder's files: its faults are printed, or why it is refused.
+// The jobs of a folder's files, with the output of its faults, or of the reason for its refusal.
 fn folder_jobs(alloc: Global, folder: &Folder) -> Result<Jobs, AllocError>
     ensures { IfOk result (AreOfFiles folder.now) }
 {
@@ -42,7 +42,7 @@ fn folder_jobs(alloc: Global, folder: &Folder) -> Result<Jobs, AllocError>
     Ok(Jobs { printed, table })
 }
 
-// The jobs of an image, for which nothing is printed, or why it is refused.
+// The jobs of an image, without output, or the reason for its refusal.
 #[tactic(auto, using(up_disk::proofs::Stored::read_is))]
 fn image_jobs(alloc: Global, bytes: &[u8]) -> Result<Jobs, AllocError>
     ensures { IfOk result (AreOfBytes bytes.now) }
@@ -89,7 +89,7 @@ fn read_image<R: Files + Eprint + AllocGlobal>(rt: &R, image: &str) -> Result<Jo
     }
 }
 
-/// Reads the jobs of a run: what the path names is a folder of job files, or the file of an image.
+/// Reads the jobs of a run: the path is that of a folder of job files, or of an image.
 pub(crate) fn read_jobs<R: Files + Eprint + AllocGlobal + Clone + Drop>(
     rt: &R,
     source: &str,

@@ -1,4 +1,4 @@
-//! Runs the jobs of a folder or an image with the system's processes, and tells what happens.
+//! Runs the jobs of a folder or an image with the system's processes, and reports what happens.
 #![tactic(auto)]
 
 mod failures;

@@ -1,4 +1,4 @@
-//! Standard output that nobody waits for.
+//! Writes to standard output without waiting for its reader.
 ghost use Rattle.std.specs.Prelude.{◌≡◌, ◌⊎◌, ◌<◌, ◌+◌, ◌++◌, [], drop, length};
 ghost use Rattle.up_run.specs.Outlets.{is_feed, lines_in, more_by};
 ghost use Rattle.up_run.specs.declared.outlet.TheConstants.{MOST_UNREAD};
@@ -19,58 +19,58 @@ use std::time::Duration;
 /// The descriptor of standard output.
 const OUTPUT: i32 = 1;
 
-/// The path by which it is opened once more (proc(5)).
+/// The path by which it is opened again (proc(5)).
 const OUTPUT_PATH: &str = "/proc/self/fd/1";
 
-/// So many bytes are written at once. A pipe that takes any takes so many (pipe(7), PIPE_BUF).
+/// The maximum number of bytes in one write. A pipe that takes any takes this many (pipe(7), PIPE_BUF).
 const MOST_AT_ONCE: usize = 4_096;
 
-/// So many bytes may wait that nobody reads.
+/// The maximum number of bytes that wait while nobody reads.
 const MOST_UNREAD: usize = 1_048_576;
 
-/// So often standard output is asked at a time whether it takes bytes: all that may wait can be written.
+/// The maximum number of writes in one flush: enough for all bytes that may wait.
 const MOST_WRITES: usize = 257;
 
-/// The kinds of device of a terminal that a program plays, as in a window (pts(4)); the kernel's list of devices has their numbers.
+/// The first and the last major device number of pseudo-terminals (pts(4)), from the kernel's list of devices.
 const PLAYED_FIRST: u64 = 136;
 
 const PLAYED_LAST: u64 = 143;
 
-// What tells whether standard output takes bytes now.
+// Reports whether standard output takes bytes now.
 #[derive(Drop)]
 struct Watch {
     poll: Poll,
     events: Events,
 }
 
-// How bytes get to standard output without a wait.
+// The way to write to standard output without waiting.
 #[derive(Drop)]
 enum Way {
-    // standard output opened once more; a write to it that would wait is refused
+    // standard output opened again; a write to it that would wait is refused
     Anew(File),
-    // standard output itself, at moments at which it takes bytes
+    // standard output itself, when it takes bytes
     Watched(Watch),
     // a file, which always takes bytes
     Plain,
 }
 
-/// Standard output, to which lines are told as far as it takes them at once. The others wait, and past a limit they are lost.
+/// Standard output, which gets lines as far as it takes them at once. The others wait, and past a limit they are lost.
 #[derive(Drop)]
 pub(crate) struct Outlet {
     way: Way,
     waiting: Vec<u8>,
-    // how many of the bytes that wait are written
+    // how many of the waiting bytes are written
     written: usize,
     // how many lines were lost
     lost: u64,
 }
 
-// The kind of a device (makedev(3)).
+// The major number of a device (makedev(3)).
 fn major_of(device: u64) -> u64 {
     (device >> 8) % 4_096
 }
 
-// Opens a pipe to be written. Without a reader that would wait for one, so that it is read as well for a moment.
+// Opens a pipe for writing. That would wait for a reader, so the pipe is opened for reading as well for a moment.
 fn open_pipe<R: Files<File = File>>(rt: &R) -> io::Result<File> {
     let both = OpenOptions::new()
         .read(true)
@@ -81,7 +81,7 @@ fn open_pipe<R: Files<File = File>>(rt: &R) -> io::Result<File> {
     opened
 }
 
-// Standard output opened once more, if that is sure not to wait: a pipe, or a terminal that a program plays.
+// Standard output opened again, if that is sure not to wait: a pipe, or a pseudo-terminal.
 fn open_output<R: Files<File = File>>(rt: &R) -> io::Result<File> {
     let found = metadata(rt, OUTPUT_PATH)?;
     let kind = found.file_type();
@@ -95,7 +95,7 @@ fn open_output<R: Files<File = File>>(rt: &R) -> io::Result<File> {
     }
 }
 
-// The same, so that a write that would wait is refused. That holds for what was opened here alone: services keep an output that waits.
+// The same, so that a write that would wait is refused. Only the file opened here is affected: services keep an output that waits.
 fn open_anew<R: Files<File = File>>(rt: &R) -> io::Result<File> {
     let output = open_output(rt)?;
     let same = UnixStream::from(OwnedFd::from(output.try_clone()?));
@@ -130,7 +130,7 @@ fn is_feed(byte: u8) -> bool
     byte == b'\n'
 }
 
-// How many lines end in a text.
+// How many line feeds a text contains.
 fn lines_in(text: &[u8]) -> u64
     ensures { result ≡ lines_in text.now }
 {
@@ -138,7 +138,7 @@ fn lines_in(text: &[u8]) -> u64
 }
 
 impl Watch {
-    // Whether standard output takes bytes now: the watch is begun anew, and told what is so already.
+    // Whether standard output takes bytes now: the watch is renewed, and reports the present state.
     fn takes(&mut self) -> bool {
         let mut output = SourceFd(&OUTPUT);
         let again = self
@@ -155,7 +155,7 @@ impl Watch {
     }
 }
 
-// How many of the bytes an output took that refuses what would wait.
+// Writes to an output that refuses what would wait; returns how many bytes it took.
 fn write_some(output: &mut File, bytes: &[u8]) -> io::Result<usize> {
     match output.write(bytes) {
         Err(error) if matches!(error.kind(), ErrorKind::WouldBlock | ErrorKind::Interrupted) => {
@@ -173,7 +173,7 @@ fn write_all<R: Print>(rt: &R, bytes: &[u8]) -> io::Result<usize> {
 }
 
 impl Way {
-    // How many of the bytes standard output took; 0 if it takes none now.
+    // Writes to standard output; returns how many bytes it took, 0 if it takes none now.
     fn write<R: Print>(&mut self, rt: &R, bytes: &[u8]) -> io::Result<usize> {
         match self {
             Way::Anew(output) => write_some(output, bytes),
@@ -190,7 +190,7 @@ impl Way {
 }
 
 impl Outlet {
-    /// Standard output, to which nothing was told.
+    /// Standard output before the first line.
     pub(crate) fn new<R: Files<File = File> + Net>(rt: &R, alloc: Global) -> Self {
         Outlet {
             way: way_of(rt, alloc),
@@ -200,7 +200,7 @@ impl Outlet {
         }
     }
 
-    // Writes the next of the bytes that wait, and answers how many it was. Without such nothing waits any more.
+    // Writes the next of the waiting bytes, and returns how many. At their end nothing waits any more.
     fn write_next<R: Print>(&mut self, rt: &R) -> io::Result<usize> {
         let left = self.waiting.get(self.written..).unwrap_or(&[]);
         let next = left.get(..MOST_AT_ONCE).unwrap_or(left);
@@ -213,7 +213,7 @@ impl Outlet {
         Ok(count)
     }
 
-    /// Writes what waits, as far as standard output takes it at once.
+    /// Writes the waiting bytes, as far as standard output takes them at once.
     pub(crate) fn flush<R: Print>(&mut self, rt: &R) -> io::Result<()> {
         for _ in 0..MOST_WRITES {
             if self.waiting.is_empty() || self.write_next(rt)? == 0 {
@@ -223,7 +223,7 @@ impl Outlet {
         Ok(())
     }
 
-    // Puts lines after those that wait. They are lost if too many wait, or memory ran out.
+    // Puts lines after those that wait. They are lost if too many wait, or out of memory.
     fn keep(&mut self, text: &[u8])
         ensures whole { ((self.new.waiting.items ≡ self.old.waiting.items ++ text.now) × (self.new.lost ≡ self.old.lost))
             ⊎ ((self.new.waiting.items ≡ self.old.waiting.items) × (self.new.lost ≡ more_by (lines_in text.now) self.old.lost)) }
@@ -237,14 +237,14 @@ impl Outlet {
         }
     }
 
-    /// Tells lines.
+    /// Writes lines, or lets them wait.
     pub(crate) fn write_lines<R: Print>(&mut self, rt: &R, text: &[u8]) -> io::Result<()> {
         self.flush(rt)?;
         self.keep(text);
         self.flush(rt)
     }
 
-    /// How many lines were lost since this was asked, if none wait any more.
+    /// How many lines were lost since the last call, if none wait any more.
     pub(crate) fn take_lost(&mut self) -> u64
         ensures none { self.old.waiting.items ≡ [] → (result ≡ self.old.lost) × (self.new.lost ≡ 0) }
         ensures later { 0 < length self.old.waiting.items → (result ≡ 0) × (self.new.lost ≡ self.old.lost) }
@@ -259,7 +259,7 @@ impl Outlet {
         lost
     }
 
-    /// How many lines were lost or wait still.
+    /// How many lines were lost or still wait.
     pub(crate) fn unread(&self) -> u64
         ensures { result ≡ more_by (lines_in (drop self.now.written self.now.waiting.items)) self.now.lost }
     {

@@ -9,26 +9,26 @@ use up_edge::Passed;
 use up_model::Output;
 use up_text::Items;
 
-/// The longest pause of a run that is not told another, in milliseconds.
+/// The default of the longest pause of a run, in milliseconds.
 pub const MOST_PAUSE: u64 = 10;
 
-/// So many pauses after something happened are short.
+/// How many pauses are short after something happened.
 const SHORT_PAUSES: u64 = 8;
 
-/// How long a short pause is, in microseconds.
+/// The length of a short pause, in microseconds.
 pub(crate) const SHORT_PAUSE: u64 = 100;
 
 /// The first pause after the short ones, in microseconds.
 const FIRST_PAUSE: u64 = 1_000;
 
-/// Each further pause is longer by this part of the one before, in whole milliseconds. So no pause is longer than a millisecond and a twelfth
-/// of the time for which nothing has happened.
+/// Each further pause is longer by this fraction of the one before, in whole milliseconds. So no pause is longer than a millisecond and a
+/// twelfth of the time for which nothing has happened.
 const GROWTH: u64 = 16;
 
-/// How long a run pauses: a moment right after something happened, and longer the longer nothing does.
+/// How long a run pauses: briefly right after something happened, and longer the longer nothing does.
 #[derive(Clone, Copy)]
 pub(crate) struct Pace {
-    // how many rounds did nothing since one did something
+    // how many rounds have done nothing since one did something
     quiet: u64,
     // the next pause that isn't short, in microseconds
     next: u64,
@@ -61,7 +61,7 @@ impl Pace {
         self.next.saturating_add(self.next / GROWTH)
     }
 
-    /// A round was over, and did nothing or something.
+    /// Notes that a round is over, which did nothing if `idle`.
     pub(crate) fn note(&mut self, idle: bool)
         ensures most { self.new.most ≡ self.old.most }
         ensures busy { idle ≡ false → (self.new.quiet ≡ 0) × (self.new.next ≡ FIRST_PAUSE) }
@@ -78,7 +78,7 @@ impl Pace {
         }
     }
 
-    /// How many milliseconds to pause now; 0 for not at all.
+    /// How many milliseconds to pause now; 0 for no pause.
     pub(crate) fn pause(&self) -> u64
         ensures value { result ≡ pause_of self.now.quiet self.now.next self.now.most }
         ensures most { result ≤ self.now.most }
@@ -132,7 +132,7 @@ fn are_nothing(passed: &[Passed]) -> bool
     passed.iter().all(|entry| is_nothing(entry))
 }
 
-/// Whether a round did nothing: it was fed a reading of the clock alone, which asked for nothing, and no byte and no client came or went.
+/// Whether a round did nothing: it was fed only a reading of the clock, without any output, and no byte and no client came or went.
 pub(crate) fn is_idle(round: &Round, passed: &[Passed]) -> bool
     ensures { result ≡ is_idle round.now passed.now }
 {

@@ -11,28 +11,28 @@ use up_image::Table;
 use up_model::{Input, Loaded};
 use up_script::script_lines;
 
-/// So many bytes of the record may wait while nothing happens.
+/// The maximum number of bytes of the record that wait while nothing happens.
 const MOST_WAITING: usize = 65_536;
 
-/// What a record begins with.
+/// The start of a record.
 #[derive(Drop)]
 pub(crate) struct Heading {
-    /// The comment with which a script begins.
+    /// The comment at the start of a script.
     pub(crate) script: Vec<u8>,
-    /// The one with which the script of a bundle begins.
+    /// The comment at the start of a bundle's script.
     pub(crate) bundle: Vec<u8>,
-    /// The files of the jobs with which the run begins, unless these can't be written as files.
+    /// The files of the jobs at the start of the run, unless these can't be written as files.
     pub(crate) jobs: Option<Vec<u8>>,
 }
 
 /// Why a record ends before its run.
 #[derive(Clone, Copy, Drop)]
 pub(crate) enum Ending {
-    /// No step of a script says an input.
+    /// No step of a script can express an input.
     Unsaid,
     /// Jobs that were loaded can't be written as job files.
     NoFiles,
-    /// The system refused to write it.
+    /// The system refused to write the record.
     Unwritten(io::Error),
     Memory,
 }
@@ -62,22 +62,22 @@ impl fmt::Display for Ending {
     }
 }
 
-/// The record of a run. It is a script until jobs are loaded. From then on it is a bundle, which has a folder of the jobs with which the run
-/// began, and one for each load.
+/// The record of a run. It is a script until jobs are loaded. From then on it is a bundle, with a folder of the jobs at the start of the
+/// run, and one for each load.
 #[derive(Drop)]
 pub(crate) struct Record<'a, W> {
     path: &'a str,
     file: W,
     heading: Heading,
-    // where the line is that begins the script, once the record is a bundle
+    // the offset of the line that begins the script, once the record is a bundle
     script_at: Option<u64>,
-    // how many bytes of whole rounds the file has
+    // how many bytes of the file are whole rounds
     written: u64,
     // the lines that aren't written yet
     waiting: Vec<u8>,
 }
 
-// Copies so many bytes.
+// Copies at most `count` bytes.
 fn copy_front<F: Read, W: Write>(from: &mut F, count: u64, to: &mut W) -> io::Result<u64> {
     let mut front = Read::take(from, count);
     io::copy(&mut front, to)
@@ -102,12 +102,11 @@ impl<'a, W: Read + Write + OpenFile + Drop> Record<'a, W> {
         })
     }
 
-    /// Cuts the record back to its last whole round. False if that can't be done.
+    /// Cuts the record back to its last whole round. False if that fails.
     pub(crate) fn cut(&self) -> bool {
         self.file.set_len(self.written).is_ok()
     }
 
-    /// Writes the lines that wait.
     pub(crate) fn write_waiting(&mut self) -> Result<(), Ending> {
         self.file.write_all(self.waiting.as_slice())?;
         self.written = self.written.saturating_add(self.waiting.len() as u64);
@@ -115,7 +114,7 @@ impl<'a, W: Read + Write + OpenFile + Drop> Record<'a, W> {
         Ok(())
     }
 
-    // Writes the folders that the record has, and returns how many bytes they are.
+    // Writes the folders of the record, and returns their length in bytes.
     fn write_folders(&self, old: &mut W, new: &mut W) -> Result<u64, Ending> {
         match (self.script_at, &self.heading.jobs) {
             (Some(at), _) => Ok(copy_front(old, at, new)?),
@@ -127,7 +126,7 @@ impl<'a, W: Read + Write + OpenFile + Drop> Record<'a, W> {
         }
     }
 
-    // Writes the script that the record has, and returns how many bytes it is, its own line among them.
+    // Writes the script of the record, and returns its length in bytes, with its own line.
     fn write_script(&self, old: &mut W, new: &mut W) -> io::Result<u64> {
         if self.script_at.is_some() {
             return io::copy(old, new);
@@ -140,7 +139,7 @@ impl<'a, W: Read + Write + OpenFile + Drop> Record<'a, W> {
         Ok(rest.saturating_add(8).saturating_add(head.len() as u64))
     }
 
-    // Writes the record with one folder more to a new file. Returns where its script begins, and how long it is.
+    // Writes the record with one more folder to a new file. Returns the offset of its script, and its length.
     fn write_anew(&self, old: &mut W, new: &mut W, jobs: &[u8]) -> Result<(u64, u64), Ending> {
         let before = self.write_folders(old, new)?;
         new.write_all(b"%folder\n")?;
@@ -151,7 +150,7 @@ impl<'a, W: Read + Write + OpenFile + Drop> Record<'a, W> {
         Ok((at, at.saturating_add(script)))
     }
 
-    // Writes the record with one folder more to a new file, and gives that its name. Returns what `write_anew` does.
+    // Writes the record with one more folder to a new file, and renames that to the record. Returns the same as `write_anew`.
     fn fill<R: Files<File = W>>(
         &self,
         rt: &R,
@@ -167,7 +166,7 @@ impl<'a, W: Read + Write + OpenFile + Drop> Record<'a, W> {
         Ok(places)
     }
 
-    // Puts the record with one folder more in its place. It is written beside it, to a file that isn't there yet, and that goes if it isn't whole.
+    // Replaces the record by one with one more folder. It is written to a file that may not exist yet, and that is removed if incomplete.
     fn replace<R: Files<File = W>>(
         &mut self,
         rt: &R,
@@ -190,7 +189,7 @@ impl<'a, W: Read + Write + OpenFile + Drop> Record<'a, W> {
         }
     }
 
-    // Adds a folder of these jobs, after which a step loads them.
+    // Adds a folder of these jobs, and a step that loads them.
     fn load<R: Files<File = W>>(
         &mut self,
         rt: &R,
@@ -208,7 +207,7 @@ impl<'a, W: Read + Write + OpenFile + Drop> Record<'a, W> {
         Ok(())
     }
 
-    // Says in the record that it ends, since no step says an input.
+    // Writes in the record that it ends, since no step can express an input.
     fn end_unsaid(&mut self, alloc: Global, input: &Input) -> Result<(), Ending> {
         let what = unsaid(alloc, input)?;
         let line = format!(in alloc; "# The record ends: no step says what came next: {what}\n")?;
@@ -217,7 +216,7 @@ impl<'a, W: Read + Write + OpenFile + Drop> Record<'a, W> {
         Err(Ending::Unsaid)
     }
 
-    // Adds the line of one input to those that wait.
+    // Adds the line of one input to the waiting lines.
     fn keep_one<R: Files<File = W>>(
         &mut self,
         rt: &R,
@@ -240,7 +239,7 @@ impl<'a, W: Read + Write + OpenFile + Drop> Record<'a, W> {
         }
     }
 
-    // Adds the lines of inputs to those that wait.
+    // Adds the lines of inputs to the waiting lines.
     fn keep<R: Files<File = W>>(
         &mut self,
         rt: &R,
@@ -257,7 +256,7 @@ impl<'a, W: Read + Write + OpenFile + Drop> Record<'a, W> {
         Ok(())
     }
 
-    /// Records inputs, and writes the record as far as it goes if they were more than a reading of the clock.
+    /// Records inputs, and writes the record so far if they were more than a reading of the clock.
     pub(crate) fn note<R: Files<File = W>>(
         &mut self,
         rt: &R,

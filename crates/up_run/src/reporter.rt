@@ -1,4 +1,4 @@
-//! What a run tells of its rounds: on standard output, in a file, and in a record.
+//! The reports of a run's rounds: on standard output, in a file, and in a record.
 ghost use Rattle.std.specs.Prelude.{◌≡◌, ◌++◌, IfOk, OnOk};
 ghost use Rattle.std.specs.List.{flat_map};
 ghost use Rattle.up_print.specs.Lines.{output_lines};
@@ -18,25 +18,25 @@ use up_model::{Input, Output};
 use up_print::push_outputs;
 use up_text::Items;
 
-/// What is told of a run.
+/// The reports that a run makes.
 #[derive(Clone, Copy, PartialEq, Eq)]
 pub struct ReportOptions<'a> {
     /// Whether standard output gets the lines that a replay prints.
     pub verbose: bool,
-    /// Whether nothing is said of jobs that fail.
+    /// Whether failed jobs aren't reported.
     pub quiet: bool,
-    /// The path of a file that gets the lines that a replay prints, if there is one.
+    /// The path of a file that gets the lines that a replay prints, if any.
     pub tell: Option<&'a str>,
     /// The path of the record, if one is kept.
     pub log: Option<&'a str>,
-    /// Whether files of these paths that are there are written over.
+    /// Whether existing files at these paths are overwritten.
     pub over: bool,
 }
 
-/// Tells of a run's rounds.
+/// Reports a run's rounds.
 #[derive(Drop)]
 pub(crate) struct Reporter<'a, W> {
-    // standard output, if it gets the lines of what rounds gave
+    // standard output, if it gets the lines of the rounds' outputs
     verbose: Option<Outlet>,
     // the file that gets them, until it can't be written
     told: Option<W>,
@@ -44,7 +44,6 @@ pub(crate) struct Reporter<'a, W> {
     record: Option<Record<'a, W>>,
 }
 
-// Appends the lines of what a round gave.
 fn push_gave(text: &mut Vec<u8>, gave: &[Items<Output>]) -> Result<(), AllocError>
     ensures { OnOk result (text.new.items ≡ text.old.items ++ flat_map (flat_map output_lines) gave.now) }
 {
@@ -54,7 +53,6 @@ fn push_gave(text: &mut Vec<u8>, gave: &[Items<Output>]) -> Result<(), AllocErro
     Ok(())
 }
 
-// The lines of what a round gave.
 fn gave_lines(alloc: Global, gave: &[Items<Output>]) -> Result<Vec<u8>, AllocError>
     ensures { IfOk result (λ text. text.items ≡ flat_map (flat_map output_lines) gave.now) }
 {
@@ -68,7 +66,7 @@ fn gave_lines(alloc: Global, gave: &[Items<Output>]) -> Result<Vec<u8>, AllocErr
     }
 }
 
-// Says that lines which were told were read by nobody.
+// Reports that lines were lost because nobody read them.
 fn say_lost<R: Eprint>(rt: &R, lost: u64) {
     if lost > 0 {
         let _ = eprintln!(rt; "initd: {lost} lines of what happens are lost: nobody read them");
@@ -76,7 +74,7 @@ fn say_lost<R: Eprint>(rt: &R, lost: u64) {
 }
 
 impl<'a, W: Read + Write + OpenFile + Drop> Reporter<'a, W> {
-    /// Tells of a run, with a record if one is kept.
+    /// A reporter, with a record if one is kept.
     pub(crate) fn new(
         verbose: Option<Outlet>,
         told: Option<W>,
@@ -89,7 +87,7 @@ impl<'a, W: Read + Write + OpenFile + Drop> Reporter<'a, W> {
         }
     }
 
-    // Ends the record, and says why. One that the system refused to write is cut back to its last whole round.
+    // Ends the record, and reports why. One that the system refused to write is cut back to its last whole round.
     fn end_record<R: Eprint>(&mut self, rt: &R, ending: Ending) {
         let is_whole = match (&self.record, ending) {
             (Some(record), Ending::Unwritten(_)) => record.cut(),
@@ -119,7 +117,7 @@ impl<'a, W: Read + Write + OpenFile + Drop> Reporter<'a, W> {
         }
     }
 
-    // Writes what waits of the record.
+    // Writes the waiting lines of the record.
     fn write_record<R: Eprint>(&mut self, rt: &R) {
         if let Some(record) = &mut self.record {
             if let Err(ending) = record.write_waiting() {
@@ -128,7 +126,7 @@ impl<'a, W: Read + Write + OpenFile + Drop> Reporter<'a, W> {
         }
     }
 
-    // Writes lines to the file that gets them.
+    // Writes lines to the file that gets them. If that fails, it gets no more.
     fn write_told<R: Eprint>(&mut self, rt: &R, text: &[u8]) {
         let Some(told) = &mut self.told else {
             return;
@@ -155,7 +153,7 @@ impl<'a, W: Read + Write + OpenFile + Drop> Reporter<'a, W> {
         }
     }
 
-    // Tells lines to those who get them.
+    // Writes lines to the file and to standard output; out of memory, both get no more.
     fn tell_lines<R: Print + Eprint>(&mut self, rt: &R, lines: Result<Vec<u8>, AllocError>) {
         match lines {
             Ok(text) => {
@@ -171,12 +169,11 @@ impl<'a, W: Read + Write + OpenFile + Drop> Reporter<'a, W> {
         }
     }
 
-    // Whether somebody gets the lines of what happens.
     fn has_reader(&self) -> bool {
         self.told.is_some() || self.verbose.is_some()
     }
 
-    /// Tells of a round, which may have been idle.
+    /// Reports a round, which may have been idle.
     pub(crate) fn report_round<R: Files<File = W> + Print + Eprint>(
         &mut self,
         rt: &R,
@@ -190,7 +187,7 @@ impl<'a, W: Read + Write + OpenFile + Drop> Reporter<'a, W> {
         }
     }
 
-    /// Tells which calls of the host and of the door failed in a round, and how many of the source, as comments.
+    /// Reports which calls of the host and of the door failed in a round, and how many of the source, as comments.
     pub(crate) fn tell_faults<R: Print + Eprint>(
         &mut self,
         rt: &R,
@@ -204,8 +201,8 @@ impl<'a, W: Read + Write + OpenFile + Drop> Reporter<'a, W> {
         }
     }
 
-    /// The run is over, in which so many calls of the host, of the door and of the source failed: that is told, what waits of the record
-    /// is written, and what nobody read is lost.
+    /// Ends the reports of a run in which this many calls of the host, the door and the source failed: reports that, writes the waiting
+    /// lines of the record, and reports unread lines as lost.
     pub(crate) fn finish<R: Print + Eprint>(
         &mut self,
         rt: &R,

@@ -24,16 +24,16 @@ use up_print::cannot_use;
 /// The rounds of a run, its pauses, and how long a client may be silent.
 #[derive(Clone, Copy, PartialEq, Eq)]
 pub struct Rounds {
-    /// How many rounds there are.
+    /// The number of rounds.
     pub count: u32,
     /// The longest pause after a round that did nothing, in milliseconds; 0 for none.
     pub most_pause: u64,
-    /// How long a client may be silent that waits for nothing, in seconds; 0 for ever.
+    /// How long a client that waits for nothing may be silent, in seconds; 0 for ever.
     pub client_timeout: u64,
 }
 
-// How a run goes on from round to round: how long it pauses, how long clients have been silent, and whether nothing is said of jobs that
-// fail.
+// The state from round to round: how long the run pauses, how long clients have been silent, and whether failed jobs aren't
+// reported.
 #[derive(Drop)]
 struct Going {
     pace: Pace,
@@ -41,7 +41,7 @@ struct Going {
     quiet: bool,
 }
 
-// The pause after a round, if there is one. A short one isn't ended by clients, as a door's pause has whole milliseconds.
+// The pause after a round, if any. Clients don't end a short one, as a door's pause has whole milliseconds.
 fn pause_after<R: Clock>(rt: &R, door: &mut UnixDoor, pace: &Pace) {
     if pace.is_short() {
         thread::sleep(rt, Duration::from_micros(SHORT_PAUSE));
@@ -53,7 +53,7 @@ fn pause_after<R: Clock>(rt: &R, door: &mut UnixDoor, pace: &Pace) {
     }
 }
 
-// One round, what is told of it, and the pause after it if it did nothing. False if it was refused.
+// One round, its reports, and the pause after it if it did nothing. False if it was refused.
 fn round<R, W>(
     rt: &R,
     daemon: &mut Daemon,

@@ -23,12 +23,12 @@ use up_image::Table;
 use up_model::ExitStatus;
 use up_print::cannot_use;
 
-// What can't be used is printed.
+// Prints that a path can't be used.
 fn unusable(rt: &(impl Print + AllocGlobal), path: &str) -> io::Result<ExitStatus> {
     print(rt, cannot_use(rt.alloc(), path))
 }
 
-// What is said of a socket that isn't made, and the status.
+// Reports a socket that isn't made, and returns the status.
 fn no_socket<R: Files + Net + Print + Eprint + AllocGlobal>(
     rt: &R,
     socket: &str,
@@ -41,7 +41,7 @@ fn no_socket<R: Files + Net + Print + Eprint + AllocGlobal>(
     unusable(rt, socket)
 }
 
-// What the record of a run begins with.
+// The start of a run's record.
 fn heading_of(
     alloc: Global,
     table: &Table,
@@ -81,7 +81,7 @@ fn record_of<'a, R: Files<File = File> + Eprint + AllocGlobal>(
     }
 }
 
-// What tells of a run, once its files are there; or the path of one that can't be made.
+// The reporter of a run, once its files are there; or the path of one that can't be made.
 fn reporter_of<'a, R: Files<File = File> + Net + Eprint + AllocGlobal>(
     rt: &R,
     table: &Table,
@@ -100,7 +100,7 @@ fn reporter_of<'a, R: Files<File = File> + Net + Eprint + AllocGlobal>(
     Ok(Ok(Reporter::new(verbose, told, record)))
 }
 
-// The rounds over jobs, once the files to which they are told are there. Without them there is no run, and the socket that was made goes.
+// The rounds over jobs, once the files of the reports are there. Without them there is no run, and the socket that was made is removed.
 fn record_run<R>(
     rt: &R,
     table: Table,
@@ -137,7 +137,7 @@ where
     }
 }
 
-// The run over jobs, with a socket that is made before anything is recorded: a second run at it changes no record.
+// The run over jobs, with a socket that is made before anything is recorded: a second run at the same socket changes no record.
 fn run_jobs<R>(
     rt: &R,
     table: Table,
@@ -161,7 +161,7 @@ where
     }
 }
 
-// The run over the jobs that were found, if there are some and what is printed before it was, and the status.
+// The run over the jobs that were found, if any and if the output before it was printed, and the status.
 fn run_found<R>(
     rt: &R,
     table: Option<Table>,
@@ -190,7 +190,7 @@ where
 
 /// Reads the jobs of a folder or of an image, prints the faults of a folder's files, makes the socket, and does the rounds. Returns the
 /// status: `Failed` if faults were printed; `Unusable` if the folder or the image is refused, or one of them, the record, the socket or
-/// the output can't be used; `Memory` if memory ran out. Neither the socket nor the processes are touched at the end.
+/// the output can't be used; `Memory` if out of memory. Neither the socket nor the processes are touched at the end.
 pub fn run_source<
     R: Files<File = File> + Net + Processes + Clock + Print + Eprint + AllocGlobal + Clone + Drop,
 >(

@@ -7,7 +7,7 @@ use std::alloc::Global;
 use up_daemon::Daemon;
 use up_edge::{Happened, Passed};
 
-/// How long a client may be silent if a run is not told otherwise, in seconds.
+/// The default of how long a client may be silent, in seconds.
 pub const MOST_SILENCE: u64 = 60;
 
 // A client, and since when it has been silent, by the host's clock.
@@ -17,7 +17,7 @@ struct Silence {
     since: u64,
 }
 
-/// How long each client has been silent. One for which there was no memory is left out.
+/// How long each client has been silent. One is left out if out of memory for it.
 #[derive(Drop)]
 pub(crate) struct Silences {
     list: Vec<Silence>,
@@ -39,7 +39,7 @@ fn reading_in(before: u64, happened: &[Happened]) -> u64
     before
 }
 
-// Whether a client that has been silent since then has been so for too long.
+// Whether a client that has been silent since `since` has been so for too long.
 fn is_over(since: u64, now: u64, most: u64) -> bool
     ensures { result ≡ is_over since now most }
 {
@@ -58,7 +58,7 @@ fn place_of(silences: &[Silence], client: u32) -> Option<usize>
     silences.iter().position(|silence| is_of(client, silence))
 }
 
-// The silence of a client that is excused if it waits for something.
+// The silence of a client, which begins anew if it is over while the client waits for something.
 fn excused(silence: Silence, now: u64, most: u64, daemon: &Daemon) -> Silence
     ensures { result ≡ excused now most daemon.now silence }
 {
@@ -73,7 +73,7 @@ fn excused(silence: Silence, now: u64, most: u64, daemon: &Daemon) -> Silence
 }
 
 impl Silences {
-    /// No client, with how long one may be silent in seconds; with 0 for ever.
+    /// No client, with how long one may be silent in seconds; 0 for ever.
     pub(crate) fn new(alloc: Global, seconds: u64) -> Self
         ensures list { result.list.items ≡ [] }
         ensures now { result.reading ≡ 0 }
@@ -112,7 +112,7 @@ impl Silences {
         self.list.retain(|silence| !is_of(client, silence));
     }
 
-    // Takes note of one call of the door. Each whole request is answered, so that what is written shows that one came.
+    // Notes one call of the door. Each whole request is answered, so that a write shows that one came.
     fn note_passed(&mut self, passed: &Passed)
         ensures list { Notes self.old.reading passed.now self.old.list.items self.new.list.items }
         ensures now { self.new.reading ≡ self.old.reading }
@@ -141,7 +141,7 @@ impl Silences {
         }
     }
 
-    /// Takes note of a round, by the records of its host and door.
+    /// Notes a round, by the records of its host and door.
     pub(crate) fn note(&mut self, happened: &[Happened], passed: &[Passed])
         ensures now { self.new.reading ≡ reading_in self.old.reading happened.now }
         ensures list { NotesAll self.new.reading passed.now self.old.list.items self.new.list.items }
@@ -151,7 +151,7 @@ impl Silences {
         self.note_all(passed);
     }
 
-    // The silence of a client that waits for something begins now, if it has lasted for too long.
+    // Restarts the silence of each client that has been silent for too long but waits for something.
     #[tactic(auto, using(crate::proofs::Noting::written_over))]
     fn excuse_waiting(&mut self, daemon: &Daemon)
         ensures list { self.new.list.items ≡ map (excused self.old.reading self.old.most daemon.now) self.old.list.items }
@@ -175,7 +175,7 @@ impl Silences {
         None
     }
 
-    /// A client that has been silent for too long. Which is named now comes last the next time, so that none keeps the others in.
+    /// A client that has been silent for too long. It comes last the next time, so that none keeps the others in.
     pub(crate) fn silent_client(&mut self, daemon: &Daemon) -> Option<u32>
         ensures named { (let silences = map (excused self.old.reading self.old.most daemon.now)
             self.old.list.items in Names silences (first_over self.old.reading self.old.most silences) result self.new.list.items) }

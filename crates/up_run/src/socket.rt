@@ -1,4 +1,4 @@
-//! Says why a run's socket can't be made.
+//! Reports why a run's socket can't be made.
 use std::fs::symlink_metadata;
 use std::io;
 use std::io::{Eprint, ErrorKind};
@@ -9,7 +9,7 @@ use std::rt::Files;
 use up_disk::why::{say, say_error};
 use up_edge::SocketFault;
 
-// What is at a path at which nothing may be yet.
+// The obstacle at a path where nothing may exist yet.
 fn obstacle<R: Files + Net>(rt: &R, path: &str) -> Option<&'static str> {
     let Ok(found) = symlink_metadata(rt, path) else {
         return None;
@@ -26,7 +26,7 @@ fn obstacle<R: Files + Net>(rt: &R, path: &str) -> Option<&'static str> {
     }
 }
 
-// Says what is in the way of a socket: at its path, or else at that of the folder in which it is made.
+// Reports the obstacle to a socket: at its path, or else at that of the folder in which it is made.
 fn say_obstacle<R: Files + Net + Eprint>(rt: &R, path: &str) {
     match obstacle(rt, path) {
         Some(why) => say(rt, path, why),
@@ -38,7 +38,6 @@ fn say_obstacle<R: Files + Net + Eprint>(rt: &R, path: &str) {
     }
 }
 
-/// Says why a socket can't be made.
 pub(crate) fn say_no_socket<R: Files + Net + Eprint>(rt: &R, path: &str, fault: SocketFault) {
     match fault {
         SocketFault::Empty => say(rt, path, "an empty path names no socket"),

@@ -16,7 +16,7 @@ use up_edge::{Journal, Source, SourceFault, report_load};
 use up_image::{CompileError, ImageError, Table, compile};
 use up_model::Loaded;
 
-// Says each fault of a folder's files. Standard output may be one that nobody reads.
+// Reports each fault of a folder's files, on standard error, since nobody may read standard output.
 fn say_faults<R: Eprint>(rt: &R, report: &[Fault]) {
     for fault in report {
         let path = fault.path.as_str();
@@ -27,12 +27,11 @@ fn say_faults<R: Eprint>(rt: &R, report: &[Fault]) {
     }
 }
 
-// Says why jobs are refused.
 fn say_refused<R: Eprint>(rt: &R, path: &str, number: u8, name: &str) {
     let _ = eprintln!(rt; "initd: {path}: {number} {name}: the configuration stays as it was");
 }
 
-// The jobs of a folder's files, whose faults are said; or why they are refused.
+// The jobs of a folder's files, whose faults are reported; or the reason for their refusal.
 fn load_files<R: Eprint + AllocGlobal>(
     rt: &R,
     dir: &str,
@@ -54,7 +53,7 @@ fn load_files<R: Eprint + AllocGlobal>(
     }
 }
 
-// The jobs of an image, or why it is refused.
+// The jobs of an image, or the reason for its refusal.
 #[tactic(auto, using(up_disk::proofs::Stored::read_is))]
 fn load_bytes<R: Eprint + AllocGlobal>(
     rt: &R,
@@ -106,7 +105,7 @@ fn load_image<R: Files + Eprint + AllocGlobal>(
     }
 }
 
-// What the path names now: a folder of job files, or the file of an image. None if it can't be read, and then it is said why.
+// The jobs at the path now: a folder of job files, or an image. None if it can't be read; the reason is then reported.
 fn load_path<R: Files + Eprint + AllocGlobal + Clone + Drop>(
     rt: &R,
     path: &str,
@@ -130,7 +129,7 @@ fn load_path<R: Files + Eprint + AllocGlobal + Clone + Drop>(
     }
 }
 
-/// A source that reads what a path names: a folder of job files, or the file of an image.
+/// A source that reads a path: a folder of job files, or an image.
 #[derive(Drop)]
 pub(crate) struct PathSource<'a, R> {
     rt: &'a R,

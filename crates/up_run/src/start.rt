@@ -1,4 +1,4 @@
-//! The daemon with which a run begins.
+//! The daemon at the start of a run.
 ghost use Rattle.std.specs.Prelude.{◌≡◌, IfOk, []};
 ghost use Rattle.up_engine.specs.Stands.{Stands};
 ghost use Rattle.up_run.specs.Starts.{Begins, first_events, run_base, run_of};
@@ -10,7 +10,7 @@ use up_image::Table;
 use up_model::Event;
 use up_text::{Env, Name};
 
-/// The folders in which the programs of jobs are looked for.
+/// The folders that are searched for the programs of jobs.
 pub(crate) const SEARCHED: &str = "/usr/sbin:/usr/bin:/sbin:/bin";
 
 // The environment of each process of a run, before that of its job.
@@ -24,7 +24,7 @@ fn run_environment(alloc: Global) -> Result<Env, AllocError>
     }
 }
 
-// The events with which a run begins: one (startup(7)).
+// The events at the start of a run: one (startup(7)).
 fn first_events(alloc: Global) -> Result<Vec<Event>, AllocError>
     ensures { IfOk result (λ events. events.items ≡ first_events) }
 {

@@ -1,4 +1,4 @@
-//! What came that no statement of a script can say, in a comment.
+//! The inputs that no statement of a script can express, in a comment.
 use std::alloc::{AllocError, Global};
 use std::fmt;
 use up_model::{Event, Input, Request, Who, process_name};
@@ -32,7 +32,7 @@ fn push_fate(text: &mut String, fate: &str, who: &Who, process: &str) -> Result<
     write!(text, "{fate} {job:?} {instance:?} {process}")
 }
 
-/// An input as the end of a comment. A line feed in it is an escape.
+/// An input as the end of a comment. A line feed in it is escaped.
 pub(crate) fn unsaid(alloc: Global, input: &Input) -> Result<String, AllocError> {
     let mut text = String::new(alloc);
     match input {

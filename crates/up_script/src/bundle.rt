@@ -12,23 +12,23 @@ use std::alloc::{AllocError, Global};
 use up_conf::Folder;
 use up_text::{Items, Text, as_text};
 
-/// The most bytes that a bundle has: 64 MiB.
+/// The maximum size of a bundle in bytes: 64 MiB.
 pub const MAX_BUNDLE: usize = 67_108_864;
 
-/// What a bundle has: folders of files, and a script.
+/// The parts of a bundle: folders of files, and a script.
 #[derive(Drop)]
 pub struct Bundle<'a> {
     pub folder: Folder,
     /// The folders after the first.
     pub later: Items<Folder>,
-    /// The first line, counted from 1, that belongs to no file and no script, or whose path is no text.
+    /// The first line, counted from 1, that belongs to no file and no script, or whose path isn't text.
     pub bad: Option<u32>,
     pub script: &'a [u8],
     /// The number of the script's first line.
     pub line: u32,
 }
 
-// A folder of a bundle, and what stands after it.
+// A folder of a bundle, and the text after it.
 #[derive(Drop)]
 struct Part<'a> {
     folder: Folder,
@@ -46,7 +46,7 @@ fn feed_at(text: &[u8]) -> usize
     memchr(b'\n', text).unwrap_or(text.len())
 }
 
-// How many bytes the first line has, with its line feed.
+// The length of the first line in bytes, with its line feed.
 #[tactic(auto, using(crate::proofs::BundleLemmas::line_take, crate::proofs::BundleLemmas::line_all))]
 fn line_len(text: &[u8]) -> usize
     ensures line { take result text.now ≡ bundle.first_line text.now }
@@ -62,7 +62,7 @@ fn line_len(text: &[u8]) -> usize
     }
 }
 
-/// The first line, and what stands after it.
+/// The first line, and the text after it.
 pub(crate) fn split_line(text: &[u8]) -> (&[u8], &[u8])
     ensures line { result.0.now ≡ bundle.first_line text.now }
     ensures after { result.1.now ≡ bundle.after_line text.now }
@@ -112,7 +112,7 @@ fn is_header(line: &[u8]) -> bool
     ends_folder(line) || is_file(line)
 }
 
-// Whether the text has no line, or begins with a header.
+// Whether the text is empty, or begins with a header.
 #[tactic(auto, using(crate::proofs::Passing::begins_by_first))]
 fn begins_header(text: &[u8]) -> bool
     ensures { result ≡ bundle.begins_header (bundle.lines_of text.now) }
@@ -124,7 +124,7 @@ fn begins_header(text: &[u8]) -> bool
     }
 }
 
-// Whether nothing is left of a folder: the text has no line, or begins with one that ends it.
+// Whether nothing is left of a folder: the text is empty, or begins with a line that ends it.
 #[tactic(auto, using(crate::proofs::Passing::none_or_first_line))]
 fn at_end(text: &[u8]) -> bool
     ensures { result ≡ none_or_first bundle.ends_folder (bundle.lines_of text.now) }
@@ -132,7 +132,7 @@ fn at_end(text: &[u8]) -> bool
     text.is_empty() || ends_folder(split_line(text).0)
 }
 
-// Whether no folder is left: the text has no line, or begins with the script's.
+// Whether no folder is left: the text is empty, or begins with the script's line.
 #[tactic(auto, using(crate::proofs::Passing::none_or_first_line))]
 fn at_script(text: &[u8]) -> bool
     ensures { result ≡ none_or_first bundle.is_script (bundle.lines_of text.now) }
@@ -140,7 +140,7 @@ fn at_script(text: &[u8]) -> bool
     text.is_empty() || is_script(split_line(text).0)
 }
 
-// The text up to the next header, the text from it on, and how many lines stand before it.
+// The text up to the next header, the text from it on, and the number of lines before it.
 fn to_header(text: &[u8]) -> (&[u8], &[u8], u32)
     requires { length text.now < 2 ^ 32 }
     ensures content { result.0.now ≡ bundle.lead (bundle.lines_of text.now) }
@@ -167,7 +167,7 @@ fn to_header(text: &[u8]) -> (&[u8], &[u8], u32)
     (content, rest, lines)
 }
 
-// The path of a line that begins a file.
+// The path in a line that begins a file.
 #[tactic(auto, unfolding(crate::specs::Bundle::path_of))]
 fn path_of(line: &[u8]) -> &[u8]
     ensures { result.now ≡ bundle.path_of line.now }
@@ -176,7 +176,7 @@ fn path_of(line: &[u8]) -> &[u8]
     if line.len() < 6 { &[] } else { &line[6..] }
 }
 
-// Adds a file, and answers whether its path is text, without which it isn't added.
+// Adds a file. False if its path isn't text; then nothing is added.
 fn add_file(
     alloc: Global,
     folder: &mut Folder,
@@ -195,7 +195,7 @@ fn add_file(
     Ok(true)
 }
 
-// The first line that is bad, with one file more.
+// The first bad line, once another file was read.
 fn first_bad(bad: Option<u32>, good: bool, line: u32) -> Option<u32>
     ensures { result ≡ option_or bad (if good then None else Some line) }
 {
@@ -205,7 +205,7 @@ fn first_bad(bad: Option<u32>, good: bool, line: u32) -> Option<u32>
     }
 }
 
-// The first line, which has this number, if it is neither a header nor the end.
+// The number of the first line, if that is neither a header nor the end.
 fn stray(text: &[u8], line: u32) -> Option<u32>
     ensures { result ≡ (if bundle.begins_header (bundle.lines_of text.now) then None else Some line) }
 {
@@ -216,7 +216,7 @@ fn stray(text: &[u8], line: u32) -> Option<u32>
     }
 }
 
-// The folder that begins with a text whose first line has this number.
+// The folder at the start of a text whose first line has this number.
 fn read_folder(alloc: Global, text: &[u8], line: u32) -> Result<Part<'_>, AllocError>
     requires { line + length text.now < 2 ^ 32 }
     ensures { IfOk result (λ part. IsPart text.now line part.folder part.bad part.rest.now part.line) }
@@ -241,7 +241,7 @@ fn read_folder(alloc: Global, text: &[u8], line: u32) -> Result<Part<'_>, AllocE
     })
 }
 
-// What stands after the script's line, and the number of its first line; nothing where there is no such line.
+// The text after the script's line, and the number of its first line; empty if there is no such line.
 fn after_header(rest: &[u8], line: u32) -> (&[u8], u32)
     requires { line + length rest.now < 2 ^ 32 }
     ensures script { none_or_first bundle.is_script (bundle.lines_of rest.now) ≡ true

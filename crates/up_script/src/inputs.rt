@@ -35,7 +35,7 @@ fn push_token_bytes(text: &mut Vec<u8>, bytes: &[u8]) -> Result<(), AllocError>
     Ok(())
 }
 
-// A text in quotes, as the tokens of a script have it.
+// A text in quotes, as a token of a script.
 #[tactic(auto, unfolding(crate::specs::Written::token))]
 fn push_token(text: &mut Vec<u8>, piece: &str) -> Result<(), AllocError>
     ensures { OnOk result (text.new.items ≡ text.old.items ++ token piece.now) }
@@ -84,7 +84,7 @@ fn push_wait(text: &mut Vec<u8>, wait: bool) -> Result<(), AllocError>
     }
 }
 
-// What a request names, unless that is nothing.
+// The name in a request, unless it is empty.
 fn push_name(text: &mut Vec<u8>, name: &str) -> Result<(), AllocError>
     ensures { OnOk result (text.new.items ≡ text.old.items ++ name_token name.now) }
 {
@@ -109,7 +109,6 @@ fn push_request(text: &mut Vec<u8>, id: u64, request: &Request) -> Result<(), Al
     push_vars(text, &request.vars)
 }
 
-// A process of an instance.
 #[tactic(auto, unfolding(crate::specs::Written::process_tokens))]
 fn push_process(text: &mut Vec<u8>, who: &Who, process: Process) -> Result<(), AllocError>
     ensures { OnOk result (text.new.items ≡ text.old.items ++ process_tokens who.now process) }
@@ -136,7 +135,7 @@ fn push_how(text: &mut Vec<u8>, how: How) -> Result<(), AllocError>
     }
 }
 
-// What a load loads, if not the jobs of the next folder.
+// The result of a load, unless that is the jobs of the next folder.
 fn push_loaded(text: &mut Vec<u8>, loaded: &Loaded) -> Result<(), AllocError>
     ensures { OnOk result (text.new.items ≡ text.old.items ++ loaded_tokens loaded.now) }
 {
@@ -150,7 +149,6 @@ fn push_loaded(text: &mut Vec<u8>, loaded: &Loaded) -> Result<(), AllocError>
     }
 }
 
-// The statement of an input.
 fn push_statement(text: &mut Vec<u8>, input: &Input) -> Result<(), AllocError>
     ensures { OnOk result (text.new.items ≡ text.old.items ++ statement input.now) }
 {
@@ -185,7 +183,7 @@ fn push_statement(text: &mut Vec<u8>, input: &Input) -> Result<(), AllocError>
     }
 }
 
-// The line of so many turns; nothing if there are none.
+// The line for this many turns; nothing for 0.
 #[tactic(auto, unfolding(crate::specs::Written::turns_line))]
 fn push_turns(text: &mut Vec<u8>, count: usize) -> Result<(), AllocError>
     ensures { OnOk result (text.new.items ≡ text.old.items ++ turns_line count) }
@@ -210,7 +208,7 @@ fn is_turn(input: &Input) -> bool
 fn push_inputs(text: &mut Vec<u8>, inputs: &[Input]) -> Result<(), AllocError>
     ensures { OnOk result (text.new.items ≡ text.old.items ++ script_of inputs.now) }
 {
-    // where the turns begin that aren't written yet
+    // the first turn that isn't written yet
     let mut begun = 0;
     for i in 0..inputs.len() {
         let input = input_at(inputs, i);
@@ -224,7 +222,6 @@ fn push_inputs(text: &mut Vec<u8>, inputs: &[Input]) -> Result<(), AllocError>
     push_turns(text, inputs.len() - begun)
 }
 
-// The lines of inputs, if they have any.
 fn render(alloc: Global, inputs: &[Input]) -> Result<Vec<u8>, AllocError>
     ensures { IfOk result (λ text. text.items ≡ script_of inputs.now) }
 {
@@ -233,8 +230,8 @@ fn render(alloc: Global, inputs: &[Input]) -> Result<Vec<u8>, AllocError>
     Ok(text)
 }
 
-/// The lines of a script that are read as exactly these inputs; none if a script can't have them, as a load of jobs, or a value with a
-/// line feed in it. The lines are read again to see that.
+/// The lines of a script that are read as exactly these inputs; none if no script can contain them, as a load of jobs, or a value with a
+/// line feed in it. The lines are read again to check that.
 pub fn script_lines(alloc: Global, inputs: &[Input]) -> Result<Option<Items<u8>>, AllocError>
     ensures said { IfOk result (λ written. IfSome written (λ text. (text ≡ script_of inputs.now)
         × (script_inputs [] 1 text ≡ Ok inputs.now))) }

@@ -1,4 +1,4 @@
-//! Texts that grow.
+//! Appends to texts.
 ghost use Rattle.std.specs.Prelude.{◌≡◌, ◌++◌, OnOk};
 ghost use Rattle.std.specs.Fmt.{decimal};
 ghost use Rattle.up_model.specs.Signals.{signal_text};
@@ -6,14 +6,12 @@ ghost use Rattle.up_model.specs.Signals.{signal_text};
 use std::alloc::AllocError;
 use up_conf::signal_name;
 
-/// Appends a text.
 pub(crate) fn push(text: &mut Vec<u8>, more: &str) -> Result<(), AllocError>
     ensures { OnOk result (text.new.items ≡ text.old.items ++ more.now) }
 {
     text.extend_from_slice(more.as_bytes())
 }
 
-/// Appends a number in decimal.
 pub(crate) fn push_decimal(text: &mut Vec<u8>, number: u64) -> Result<(), AllocError>
     ensures { OnOk result (text.new.items ≡ text.old.items ++ decimal number) }
 {

@@ -18,7 +18,7 @@ fn begins_no_wait(words: &[Text]) -> bool
     }
 }
 
-// A command that stands alone.
+// A command without arguments.
 fn alone(
     alloc: Global,
     command: Command,

@@ -7,7 +7,6 @@ use up_conf::Process;
 use up_model::{Command, Event, How, Input, Loaded, Request, Who};
 use up_text::Env;
 
-// Whether the key and the value at a place are the same.
 fn same_pair(env: &Env, other: &Env, i: usize) -> bool
     requires one { i < length env.now }
     requires both { i < length other.now }
@@ -81,7 +80,7 @@ fn same_how(how: How, other: How) -> bool
     how == other
 }
 
-// Jobs that were loaded are not among what is read.
+// Loaded jobs don't occur in what is read.
 fn same_loaded(loaded: &Loaded, other: &Loaded) -> bool
     requires { has_jobs loaded.now ≡ false }
     ensures same { result ≡ true → loaded.now ≡ other.now }
@@ -144,7 +143,6 @@ fn same_input(input: &Input, other: &Input) -> bool
     }
 }
 
-/// The input at a place.
 pub(crate) fn input_at(inputs: &[Input], i: usize) -> &Input
     requires { i < length inputs.now }
     ensures { slice_get inputs.now i ≡ Some result.now }
@@ -152,7 +150,7 @@ pub(crate) fn input_at(inputs: &[Input], i: usize) -> &Input
     &inputs[i]
 }
 
-/// Whether both are the same inputs in the same order. The first ones are what a script gives, so that no load of jobs is among them.
+/// Whether both are the same inputs in the same order. The first ones come from a script, so that no load of jobs is among them.
 #[tactic(auto, using(crate::proofs::Compared::one_further, crate::proofs::Compared::all_same))]
 pub(crate) fn same_inputs(inputs: &[Input], others: &[Input]) -> bool
     requires { AllByRecursion (λ input. loads_jobs input ≡ false) inputs.now }

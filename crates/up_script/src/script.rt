@@ -17,7 +17,7 @@ use up_image::Table;
 use up_model::Input;
 use up_text::{Items, Lexer, Text, TextFault, as_text, without_comments};
 
-// The bytes as a text, where they may stand in a script.
+// The bytes as a text, if they may be part of a script.
 #[tactic(auto, unfolding(crate::specs::Statements::is_text))]
 fn text_of(bytes: &[u8]) -> Option<&str>
     ensures test { MatchOption result (is_text bytes.now ≡ false) (λ text. is_text bytes.now ≡ true) }
@@ -29,7 +29,7 @@ fn text_of(bytes: &[u8]) -> Option<&str>
     as_text(bytes)
 }
 
-// Whether the first line may stand in a script.
+// Whether the first line may be part of a script.
 #[tactic(auto, using(crate::proofs::Splitting::begins_none, crate::proofs::Splitting::begins_first))]
 fn begins_text(script: &[u8]) -> bool
     ensures { result ≡ begins_text (lines_of script.now) }
@@ -40,7 +40,7 @@ fn begins_text(script: &[u8]) -> bool
     text_of(split_line(script).0).is_some()
 }
 
-// The lines up to the first that may not stand in a script, the bytes from it on, and how many lines stand before it.
+// The lines before the first that may not be part of a script, the bytes from it on, and the number of lines before it.
 fn text_front(script: &[u8]) -> (&[u8], &[u8], u32)
     requires { length script.now < 4294967295 }
     ensures { Fronts script.now result.0.now result.1.now result.2 }
@@ -55,7 +55,7 @@ fn text_front(script: &[u8]) -> (&[u8], &[u8], u32)
     (front, rest, count)
 }
 
-/// What comes next in a step.
+/// The next item in a step.
 #[derive(Drop)]
 enum Next {
     Word(Text),
@@ -77,7 +77,7 @@ fn next_word(alloc: Global, lexer: &mut Lexer) -> Result<Next, AllocError>
     }
 }
 
-// The words of the step in front, where each is whole; the lexer then stands after it.
+// The words of the next step, if each is whole; the lexer is then after the step.
 fn step_words(alloc: Global, lexer: &mut Lexer) -> Result<Option<Items<Text>>, AllocError>
     ensures words { IfOk result (λ words. words ≡ texts_in (lexemes_of lexer.old)) }
     ensures after { IfOk result (λ words. IfSome words
@@ -95,7 +95,7 @@ fn step_words(alloc: Global, lexer: &mut Lexer) -> Result<Option<Items<Text>>, A
     Ok(Some(Items::new(words)))
 }
 
-// What the step in front gives, if it is no bad one; the lexer then stands after it, and a load has taken the next table.
+// The inputs of the next step, unless it is bad; the lexer is then after it, and a load has taken the next table.
 fn step_inputs(
     alloc: Global,
     tables: &mut VecDeque<Table>,
@@ -138,7 +138,7 @@ fn text_inputs(
     Ok(Ok(inputs))
 }
 
-// What is read of a script, of which these bytes are left from this line on, where they begin with a line that is no text.
+// The outcome of reading a script, of which these bytes are left from this line on, if they begin with a line that isn't text.
 #[tactic(auto, using(crate::proofs::Splitting::left_none, crate::proofs::Splitting::left_ok, crate::proofs::Splitting::left_err))]
 fn unless_left(read: Result<ScriptInputs, u32>, rest: &[u8], line: u32) -> Result<ScriptInputs, u32>
     ensures { result ≡ unless_left line (lines_of rest.now) read }
@@ -152,7 +152,7 @@ fn unless_left(read: Result<ScriptInputs, u32>, rest: &[u8], line: u32) -> Resul
     }
 }
 
-// The inputs of the lines up to the first that is no text, where they begin on this line, or the first bad line.
+// The inputs of the lines before the first that isn't text, or the first bad line. The script begins on this line.
 #[tactic(auto, using(crate::proofs::Splitting::by_front))]
 fn lines_inputs(
     alloc: Global,
@@ -187,7 +187,7 @@ pub fn read_inputs_with(
     lines_inputs(alloc, tables, bytes.as_slice(), line)
 }
 
-/// The same of a script that stands alone, in which a load is a bad step.
+/// The same for a script without a bundle, in which a load is a bad step.
 pub fn read_inputs(
     alloc: Global,
     script: &[u8],
@@ -200,7 +200,7 @@ pub fn read_inputs(
     read_inputs_with(alloc, &mut tables, script, line)
 }
 
-/// The same, each turn for itself.
+/// The same, with each turn as an input of its own.
 pub fn script_inputs(
     alloc: Global,
     script: &[u8],

@@ -8,7 +8,7 @@ use std::marker::Model;
 use up_model::Input;
 use up_text::Items;
 
-/// What a step of a script gives: nothing, one input, or so many turns.
+/// The inputs of a step of a script: none, one input, or a number of turns.
 #[derive(Drop)]
 pub enum StepInputs {
     Nothing,
@@ -16,7 +16,7 @@ pub enum StepInputs {
     Turns(u64),
 }
 
-/// The inputs of a script, of which many turns take no more room than one. Contracts see them as their list.
+/// The inputs of a script. Many turns take no more room than one. Contracts see them as their list.
 #[derive(Drop)]
 pub struct ScriptInputs {
     steps: Vec<StepInputs>,
@@ -56,7 +56,6 @@ fn push_inputs(inputs: &mut Vec<Input>, step: StepInputs) -> Result<(), AllocErr
     Ok(())
 }
 
-// The inputs of steps, one after another.
 fn expand(alloc: Global, steps: Vec<StepInputs>) -> Result<Vec<Input>, AllocError>
     ensures { IfOk result (λ inputs. inputs.items ≡ inputs_of_steps steps.items) }
 {
@@ -77,7 +76,6 @@ impl ScriptInputs {
         }
     }
 
-    // Appends what one step more gives.
     pub(crate) fn push(&mut self, step: StepInputs) -> Result<(), AllocError>
         ensures { OnOk result (self.new ≡ self.old ++ inputs_of_step step) }
     {
@@ -85,7 +83,7 @@ impl ScriptInputs {
         Ok(())
     }
 
-    /// What each step gives, in order: many turns are one item.
+    /// The inputs of each step, in order: many turns are one item.
     pub fn into_steps(self) -> Vec<StepInputs>
         ensures { inputs_of_steps result.items ≡ self }
     {
@@ -93,7 +91,7 @@ impl ScriptInputs {
         steps
     }
 
-    /// All of them, each turn for itself.
+    /// All of them, with each turn as an input of its own.
     pub fn expanded(self, alloc: Global) -> Result<Items<Input>, AllocError>
         ensures { IfOk result (λ inputs. inputs ≡ self) }
     {

@@ -6,7 +6,7 @@ use std::alloc::{AllocError, Global};
 use up_text::env::split_pair;
 use up_text::{Env, Name, Text, TextFault};
 
-/// The name of these bytes, if they are one.
+/// The name of these bytes; none if they aren't a valid name.
 pub(crate) fn name_of(alloc: Global, text: &str) -> Result<Option<Name>, AllocError>
     ensures name { IfOk result (λ name. name ≡ name_in text.now) }
     ensures memory { OnErr result (is_some (name_in text.now) ≡ true) }
@@ -18,7 +18,7 @@ pub(crate) fn name_of(alloc: Global, text: &str) -> Result<Option<Name>, AllocEr
     }
 }
 
-// Sets a key, and answers whether it is one and has a value that it may have.
+// Sets a key. False if the key or the value isn't valid.
 fn set(vars: &mut Env, key: &str, value: &str) -> Result<bool, AllocError>
     ensures taken { IfOk result (λ taken. TakesWord
         (with_binding key.now value.now vars.old) taken vars.new) }
@@ -31,7 +31,7 @@ fn set(vars: &mut Env, key: &str, value: &str) -> Result<bool, AllocError>
     }
 }
 
-// Sets the variable of a word, and answers whether it has one.
+// Sets the variable of a word. False if the word contains none.
 fn set_word(vars: &mut Env, word: &str) -> Result<bool, AllocError>
     ensures taken { IfOk result (λ taken. TakesWord (with_word word.now vars.old) taken vars.new) }
     ensures memory { OnErr result (is_some (with_word word.now vars.old) ≡ true) }
@@ -42,7 +42,7 @@ fn set_word(vars: &mut Env, word: &str) -> Result<bool, AllocError>
     }
 }
 
-/// The variables of words KEY=VALUE; if a key is there twice, the later value counts.
+/// The variables of words KEY=VALUE; if a key occurs twice, the later value counts.
 #[tactic(auto, using(crate::proofs::Cutting::vars_left))]
 pub(crate) fn vars_of(alloc: Global, words: &[Text]) -> Result<Option<Env>, AllocError>
     ensures { IfOk result (λ vars. vars ≡ vars_of [] words.now) }

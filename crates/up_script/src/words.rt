@@ -137,7 +137,7 @@ fn clock_of(words: &[Text]) -> Option<Input>
     }
 }
 
-// What a load loads, by the words after the number of its request: the next table, if one is left, or nothing.
+// The result of a load, by the words after the number of its request: the next table, if one is left, or nothing.
 fn loaded_of(tables: &mut VecDeque<Table>, words: &[Text]) -> Option<Loaded>
     ensures loaded { result ≡ loaded_of tables.old.items words.now }
     ensures left { IfSome result (λ _. tables.new.items ≡ left_by_loaded tables.old.items words.now) }
@@ -166,7 +166,6 @@ fn load_of(tables: &mut VecDeque<Table>, words: &[Text]) -> Option<Input>
     Some(Input::Load { id, loaded })
 }
 
-// The one input of a line by its first word and the others.
 fn input_of(
     alloc: Global,
     tables: &mut VecDeque<Table>,
@@ -206,7 +205,7 @@ fn turns_of(words: &[Text]) -> Option<StepInputs>
     }
 }
 
-/// What a line gives by its words; a line without words gives nothing. A load takes the next of the tables.
+/// The inputs of a line, by its words; none for a line without words. A load takes the next of the tables.
 pub(crate) fn inputs_of(
     alloc: Global,
     tables: &mut VecDeque<Table>,

@@ -1,4 +1,4 @@
-//! What a reload from a folder or an image to a folder changes.
+//! The changes by a reload from a folder or an image to a folder.
 ghost use Rattle.std.specs.Prelude.{◌≡◌, IfOk};
 ghost use Rattle.up_disk.specs.Walk.{IsWalked};
 ghost use Rattle.up_print.specs.Folders.{image_refusal_line, prints, unusable};
@@ -20,14 +20,14 @@ use up_print::check::check_and_compile;
 use up_print::{Printed, cannot_use, image_refused};
 use up_text::Items;
 
-/// The jobs that are compared, or what is printed in their place.
+/// The jobs that are compared, or the output in their place.
 #[derive(Drop)]
 pub enum Loaded {
     Jobs(Table),
     Refused(Printed),
 }
 
-// The jobs of a folder that a check finds no fault in, and else what the check prints.
+// The jobs of a folder without faults, or else the output of its check.
 fn loaded_by(checked: Printed, table: Option<Table>) -> Loaded
     ensures { result ≡ loaded_by checked.status checked table }
 {
@@ -44,7 +44,7 @@ fn load(alloc: Global, folder: &Folder) -> Result<Loaded, AllocError>
     Ok(loaded_by(checked, table))
 }
 
-// The same of the files that a walk found.
+// The same for the files that a walk found.
 fn load_walked(alloc: Global, folder: &Folder) -> Result<Loaded, AllocError>
     requires { IsWalked folder.now }
     ensures { IfOk result LoadsFiles }
@@ -52,7 +52,7 @@ fn load_walked(alloc: Global, folder: &Folder) -> Result<Loaded, AllocError>
     load(alloc, folder)
 }
 
-// That a path can't be used.
+// The output for a path that can't be used.
 fn lost(alloc: Global, path: &str) -> Result<Loaded, AllocError>
     ensures { IfOk result (λ loaded. loaded ≡ Loaded.Refused (prints (unusable path.now) Unusable)) }
 {
@@ -73,7 +73,7 @@ fn load_dir<R: Files + Eprint + AllocGlobal + Clone + Drop>(
     }
 }
 
-// What a check of the other folder prints, below a line that names it.
+// The output of the other folder's check, below a line that names the folder.
 #[tactic(auto, unfolding(crate::specs::Compares::named))]
 fn named(alloc: Global, path: &str, checked: &Printed) -> Result<Printed, AllocError>
     ensures { IfOk result (λ made. made ≡ named path.now checked.now) }
@@ -121,7 +121,6 @@ fn load_other_dir<R: Files + Eprint + AllocGlobal + Clone + Drop>(
     }
 }
 
-// Why an image is refused.
 fn refused_image(alloc: Global, error: ImageError) -> Result<Loaded, AllocError>
     ensures { IfOk result (λ loaded. loaded ≡ Loaded.Refused (prints (image_refusal_line error) Unusable)) }
 {
@@ -149,7 +148,7 @@ fn load_image<R: Files + Eprint + AllocGlobal>(rt: &R, image: &str) -> Result<Lo
     }
 }
 
-// The jobs of what a path names: an image if it is a file, and else a folder.
+// The jobs at a path: an image if it is a file, and else a folder.
 fn load_other<R: Files + Eprint + AllocGlobal + Clone + Drop>(
     rt: &R,
     other: &str,
@@ -194,8 +193,8 @@ fn compare_other<R: Files + Eprint + AllocGlobal + Clone + Drop>(
     compare_with(rt.alloc(), new, old)
 }
 
-/// What a reload from a folder or an image to a folder on the disk changes: a line for each job that is added or removed, or that differs.
-/// If one of them is faulty or can't be used, it is what a check prints of it, and below a line that names it if it is the other one.
+/// The changes by a reload from a folder or an image to a folder on the disk: a line per job that is added or removed, or that differs.
+/// If one of them is faulty or can't be used, the output is that of its check, below a line that names it if it is the other one.
 pub fn compare_dir<R: Files + Eprint + AllocGlobal + Clone + Drop>(
     rt: &R,
     dir: &str,

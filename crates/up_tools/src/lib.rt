@@ -1,4 +1,4 @@
-//! What is said of a folder on the disk beside its faults and its runs, and what a record of a run shows.
+//! Reports about a folder on the disk other than its faults and its runs, and the contents of a record of a run.
 #![tactic(auto)]
 
 pub mod compare;

@@ -1,4 +1,4 @@
-//! What a lint of a folder prints: its faults, and a line for each thing that is allowed and is most likely a mistake.
+//! The output of a folder's lint: its faults, and a line for each thing that is allowed but most likely a mistake.
 ghost use Rattle.std.specs.Prelude.{◌≡◌, IfOk};
 ghost use Rattle.up_tools.specs.Lints.{linted, Lints, LintsDir, status_by, with_warnings};
 
@@ -23,7 +23,7 @@ pub(crate) fn status_by(text: &[u8]) -> ExitStatus
     }
 }
 
-// The lines of faults, and after them those of the warnings.
+// The lines of faults, followed by those of the warnings.
 fn with_warnings(
     faults: Items<u8>,
     files: &[File],
@@ -41,7 +41,7 @@ fn with_warnings(
     Ok(Printed { text, status })
 }
 
-// What is printed of a folder's jobs, or of a folder that is refused and has none.
+// The output for a folder's jobs, or for a folder that is refused and has none.
 fn linted(
     faults: Printed,
     table: Option<Table>,
@@ -61,7 +61,7 @@ fn linted(
     }
 }
 
-// What a lint of a folder prints: the faults of its files, and the warnings of its jobs.
+// The output of a folder's lint: the faults of its files, and the warnings of its jobs.
 fn lint(
     alloc: Global,
     folder: &Folder,
@@ -74,8 +74,8 @@ fn lint(
     linted(faults, table, folder.as_slice(), left_out, outside)
 }
 
-/// What a lint of a folder on the disk prints: the faults of its files, and the warnings of its jobs, but for those of the kinds that
-/// are left out. `outside` has the names of the events that come from outside.
+/// The output of a lint of a folder on the disk: the faults of its files, and the warnings of its jobs, except those of the kinds that
+/// are left out. `outside` contains the names of the events that come from outside.
 pub fn lint_dir<R: Files + Eprint + AllocGlobal + Clone + Drop>(
     rt: &R,
     dir: &str,

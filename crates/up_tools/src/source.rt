@@ -19,7 +19,7 @@ use up_print::{Printed, cannot_use};
 use up_script::bundle::MAX_BUNDLE;
 use up_script::{read_bundle, script_inputs};
 
-// The bytes of a record, if it can be read and is no longer than a bundle may be.
+// The bytes of a record; none if it can't be read or is longer than a bundle may be.
 fn read_record<R: Files + Eprint + AllocGlobal>(
     rt: &R,
     log: &str,
@@ -61,7 +61,7 @@ fn view_over<R: Files + Eprint + AllocGlobal>(
     }
 }
 
-// The same of the files that a walk found.
+// The same for the files that a walk found.
 fn view_walked<R: Files + Eprint + AllocGlobal>(
     rt: &R,
     view: View,
@@ -88,7 +88,7 @@ fn view_dir<R: Files + Eprint + AllocGlobal + Clone + Drop>(
     }
 }
 
-// The same of the files that a bundle has, in which the jobs of an image are shown.
+// The same for the files of a bundle, in which the jobs of an image are shown.
 fn view_shown<R: Files + Eprint + AllocGlobal>(
     rt: &R,
     view: View,
@@ -120,7 +120,7 @@ fn view_image<R: Files + Eprint + AllocGlobal>(
     }
 }
 
-/// What is printed of a record over what the path names: an image if it is a file, and else a folder.
+/// The output for a record over a path: an image if it is a file, and else a folder.
 pub fn view_source<R: Files + Eprint + AllocGlobal + Clone + Drop>(
     rt: &R,
     view: View,
@@ -135,7 +135,7 @@ pub fn view_source<R: Files + Eprint + AllocGlobal + Clone + Drop>(
     }
 }
 
-/// What is printed of a record that is a bundle, which has its folders and its script.
+/// The output for a record that is a bundle, with folders and script.
 pub fn view_file<R: Files + Eprint + AllocGlobal>(
     rt: &R,
     view: View,

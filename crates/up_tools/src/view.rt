@@ -1,4 +1,4 @@
-//! What is printed of a folder's jobs and the inputs of a record.
+//! The output for a folder's jobs and the inputs of a record.
 ghost use Rattle.std.specs.Prelude.{◌≡◌, ◌≤◌, [], IfOk, length};
 ghost use Rattle.up_script.specs.declared.bundle.TheConstants.{MAX_BUNDLE};
 ghost use Rattle.up_print.specs.Folders.{prints};
@@ -40,7 +40,6 @@ fn show(alloc: Global, view: View, chart: Chart) -> Result<Vec<u8>, AllocError>
     }
 }
 
-// The text of a run of these jobs.
 fn show_run(
     alloc: Global,
     view: View,
@@ -54,7 +53,7 @@ fn show_run(
     Ok(Items::new(text))
 }
 
-// What is printed of a run of a folder's jobs.
+// The output for a run of a folder's jobs.
 fn view_inputs(
     alloc: Global,
     view: View,
@@ -73,7 +72,7 @@ fn view_inputs(
     Ok(Printed { text, status })
 }
 
-/// What is printed of a folder's jobs and a record with this name. At a bad step, and of a folder that is refused, it is what a replay prints.
+/// The output for a folder's jobs and a record with this name. At a bad step, and for a refused folder, it is that of a replay.
 pub(crate) fn view_folder(
     alloc: Global,
     view: View,
@@ -96,7 +95,7 @@ pub(crate) fn view_folder(
     }
 }
 
-// What is printed of a bundle that is compiled.
+// The output for a compiled bundle.
 fn view_run(alloc: Global, view: View, run: BundleRun, name: &str) -> Result<Printed, AllocError>
     ensures { IfOk result (λ made. made ≡ viewed_run view name.now run) }
 {
@@ -118,7 +117,7 @@ fn view_run(alloc: Global, view: View, run: BundleRun, name: &str) -> Result<Pri
     }
 }
 
-// What is printed of a run of the jobs of a bundle.
+// The output for a run of the jobs of a bundle.
 fn view_steps(
     alloc: Global,
     view: View,
@@ -144,8 +143,8 @@ fn view_steps(
     }
 }
 
-/// What is printed of the bytes of a record that is a bundle with this name. At a bad step, and if one of its folders is refused, it is what
-/// a replay prints.
+/// The output for the bytes of a record that is a bundle with this name. At a bad step, and if one of its folders is refused, it is
+/// that of a replay.
 pub(crate) fn view_bundle(
     alloc: Global,
     view: View,

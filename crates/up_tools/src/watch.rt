@@ -1,4 +1,4 @@
-//! Runs inputs, and notes what their answers show.
+//! Runs inputs, and notes the moments that their answers show.
 ghost use Rattle.std.specs.Prelude.{◌≡◌, ◌++◌, [], OnOk, IfOk};
 ghost use Rattle.up_chart.specs.Moments.{clock_at, moments_from, no_clock, step_moments, time_of};
 ghost use Rattle.up_engine.specs.Stands.{Stands};
@@ -14,7 +14,7 @@ use up_image::Table;
 use up_model::Input;
 use up_text::Env;
 
-// What one input and its answer show.
+// Adds the moments of one input and its answer.
 fn watch_one(
     alloc: Global,
     moments: &mut Vec<Moment>,
@@ -38,7 +38,7 @@ fn watch_one(
     }
 }
 
-// What all inputs and their answers show, and the clock after them.
+// Adds the moments of all inputs and their answers; returns the clock after them.
 fn watch_all(
     alloc: Global,
     moments: &mut Vec<Moment>,
@@ -57,7 +57,7 @@ fn watch_all(
     Ok(clock)
 }
 
-/// The picture of a run of these jobs.
+/// The chart of a run of these jobs.
 pub(crate) fn watch(alloc: Global, table: Table, inputs: &[Input]) -> Result<Chart, AllocError>
     ensures { IfOk result (λ chart. chart ≡ run_chart table inputs.now) }
 {

@@ -1,4 +1,4 @@
-//! A client of the daemon: what it said that has not entered the engine, and what waits to be written to it.
+//! A client of the daemon: the requests that have not entered the engine, and the bytes that wait to be written to it.
 ghost use Rattle.std.specs.Prelude.{◌≡◌, ◌≤◌, ◌<◌, [], None, IfOk, OnOk, IfSome, length, take, option_map};
 ghost use Rattle.up_edge.specs.Connecting.{SameClients};
 ghost use Rattle.up_daemon.specs.Hearing.{Hears, Enters, IsAnswered, IsTaken, IsPassedOver, IsReadOnce, IsWrittenOnce, most_waiting};
@@ -9,10 +9,10 @@ use up_edge::Door;
 use up_model::{Answer, Request};
 use up_wire::{Feed, WireFault, write_answer};
 
-/// The most bytes that one read takes.
+/// The maximum number of bytes that one read takes.
 pub(crate) const MOST_READ: usize = 4096;
 
-/// A client with so many requests that have not entered the engine is not read.
+/// A client with this many requests that have not entered the engine is not read.
 pub(crate) const MOST_WAITING: usize = 64;
 
 /// A client that is connected.
@@ -30,7 +30,6 @@ pub(crate) struct Client {
 }
 
 impl Client {
-    /// A client that said nothing.
     pub(crate) fn new(alloc: Global, number: u32) -> Self
         ensures number { result.number ≡ number }
         ensures feed { result.feed ≡ record { rest = []; fault = None } }
@@ -68,7 +67,7 @@ impl Client {
         self.number == number && self.is_waiting()
     }
 
-    /// Takes bytes that it sent. False if they break a frame, after which it can't be read on.
+    /// Takes bytes that it sent. False if they break a frame, after which it can't be read any further.
     pub(crate) fn hear(&mut self, piece: &[u8]) -> Result<bool, AllocError>
         ensures { IfOk result (λ whole. Hears whole piece.now self.old self.new) }
     {
@@ -95,7 +94,7 @@ impl Client {
         Some(self.waiting.remove(0))
     }
 
-    /// Queues the answer if it is that of the client's request.
+    /// Queues the answer if it is that of the client's request. False if not.
     pub(crate) fn answer(&mut self, id: u64, answer: &Answer) -> Result<bool, AllocError>
         ensures { IfOk result (λ taken. IsAnswered id answer.now taken self.old self.new) }
     {
@@ -107,7 +106,7 @@ impl Client {
         Ok(true)
     }
 
-    // Takes what a read found at the buffer's beginning. False if that is the end, or breaks a frame.
+    // Takes the bytes that a read put at the start of the buffer. False if that is the end, or breaks a frame.
     fn take(&mut self, buffer: &[u8], found: Option<usize>) -> Result<bool, AllocError>
         requires { IfSome found (λ count. count ≤ length buffer.now) }
         ensures { IfOk result (λ stays. IsTaken stays
@@ -147,7 +146,7 @@ impl Client {
         }
     }
 
-    /// Writes what waits, in one call, if anything does. False if the write failed.
+    /// Writes the waiting bytes, in one call, if there are any. False if the write failed.
     pub(crate) fn write<D: Door>(&mut self, door: &mut D) -> Result<bool, AllocError>
         ensures none { IfOk result (λ stays. length self.old.answers.items ≡ 0
             → IsPassedOver stays self.old self.new (D.calls door.old) (D.calls door.new)) }
