@@ -1,14 +1,14 @@
 -- The jobs of a folder and the events that join them, as a graph for dot(1).
-use Rattle.std.specs.Prelude.{ℕ, ◌+◌, if◌then◌else◌, List, [], ◌∷◌, ◌++◌, Option, None, Some, codes, Bool, ◌||◌, ◌==◌}
+use Rattle.std.specs.Prelude.{ℕ, ◌+◌, if◌then◌else◌, List, [], ◌∷◌, ◌++◌, Option, None, Some, codes, ◌==◌}
 use Rattle.std.specs.Fmt.{decimal}
 use Rattle.std.specs.List.{flat_map}
-use Rattle.std.specs.Str.{bytes_eq}
 use Rattle.up_conf.specs.declared.job.JobDef.{JobDef}
 use Rattle.up_expr.specs.declared.expr.Leaf.{Leaf}
 use Rattle.up_expr.specs.declared.expr.Test.{Test}
 use Rattle.up_expr.specs.declared.expr.Test.TheVariants.{Place, Same, Differs}
 use Rattle.up_expr.specs.Flat.{size}
 use Rattle.up_expr.specs.Trees.{Tree, One, Both, Either}
+use Rattle.up_expr.specs.JobEvents.{is_job_event, wanted_job}
 use Rattle.up_value.specs.Values.{Bytes}
 
 -- a byte of a text in quotes
@@ -33,25 +33,13 @@ edge from to looks = codes "  \"" ++ from ++ codes "\" -> \"" ++ to ++ codes "\"
 unfoldable pub node : Bytes → Bytes → Bytes → Bytes
 node id label looks = codes "  \"" ++ id ++ codes "\" [label=\"" ++ label ++ codes "\"" ++ looks ++ codes "];\n"
 
--- an event that jobs make (starting(7), started(7), stopping(7), stopped(7))
-unfoldable pub is_job_event : Bytes → Bool
-is_job_event name = bytes_eq name (codes "starting") || bytes_eq name (codes "started")
-    || bytes_eq name (codes "stopping") || bytes_eq name (codes "stopped")
-
--- the job whose event it must be, by its first value or by the variable JOB
-abbrev pub job_in : List Test → Option Bytes
-job_in [] = None
-job_in (Place value ∷ tests) = Some value
-job_in (Same key value ∷ tests) = if bytes_eq key (codes "JOB") then Some value else job_in tests
-job_in (Differs key value ∷ tests) = job_in tests
-
 -- a job makes its own events
 abbrev pub made_by : Bytes → Option Bytes → Bytes
 made_by id None = []
 made_by id (Some job) = edge (codes "job " ++ flat_map escaped job) id (codes " [style=dotted]")
 
 abbrev pub source : Bytes → Leaf → Bytes
-source id leaf = if is_job_event leaf.event then made_by id (job_in leaf.values) else []
+source id leaf = if is_job_event leaf.event then made_by id (wanted_job leaf.values) else []
 
 -- an event, and that it leads to a node
 unfoldable pub leaf_lines : Leaf → Bytes → Bytes → Bytes

@@ -2,12 +2,12 @@
 ghost use Rattle.std.specs.Prelude.{◌≡◌, ◌++◌, [], ◌+◌, ◌<◌, ◌^◌, OnOk, IfOk, codes, option_copied};
 ghost use Rattle.std.specs.List.{flat_map};
 ghost use Rattle.up_expr.specs.Flat.{size};
-ghost use Rattle.up_advice.specs.Graph.{edge, escaped, graph_of, group_id, group_lines, is_job_event, job_in, job_lines, job_node, leaf_lines, leaf_text, made_by, node, side_lines, source, condition_lines, test_text, tree_lines};
+ghost use Rattle.up_advice.specs.Graph.{edge, escaped, graph_of, group_id, group_lines, job_lines, job_node, leaf_lines, leaf_text, made_by, node, side_lines, source, condition_lines, test_text, tree_lines};
 
 use crate::push::{push, push_decimal};
 use std::alloc::{AllocError, Global};
 use up_conf::JobDef;
-use up_expr::{Branch, Condition, Leaf, Root, Test};
+use up_expr::{Branch, Condition, Leaf, Root, Test, is_job_event, wanted_job};
 use up_text::Text;
 
 #[tactic(auto, unfolding(crate::specs::Graph::escaped))]
@@ -96,31 +96,6 @@ fn push_node(text: &mut Vec<u8>, id: &[u8], label: &[u8], looks: &str) -> Result
     push(text, "];\n")
 }
 
-#[tactic(auto, unfolding(crate::specs::Graph::is_job_event))]
-fn is_job_event(name: &str) -> bool
-    ensures { result ≡ is_job_event name.now }
-{
-    name == "starting" || name == "started" || name == "stopping" || name == "stopped"
-}
-
-// The job whose event is meant, by the first positional value or the variable JOB, whichever comes first.
-fn job_in(tests: &[Test]) -> Option<&Text>
-    ensures { option_copied result ≡ job_in tests.now }
-{
-    for test in tests {
-        match test {
-            Test::Place(value) => return Some(value),
-            Test::Same(key, value) => {
-                if key.as_str() == "JOB" {
-                    return Some(value);
-                }
-            }
-            Test::Differs(_, _) => {}
-        }
-    }
-    None
-}
-
 // Appends the edge from a job to its own event.
 fn push_maker(text: &mut Vec<u8>, id: &[u8], job: Option<&Text>) -> Result<(), AllocError>
     ensures { OnOk result (text.new.items ≡ text.old.items ++ made_by id.now (option_copied job.entry)) }
@@ -138,7 +113,7 @@ fn push_source(text: &mut Vec<u8>, id: &[u8], leaf: &Leaf) -> Result<(), AllocEr
     ensures { OnOk result (text.new.items ≡ text.old.items ++ source id.now leaf.now) }
 {
     if is_job_event(leaf.event.as_str()) {
-        push_maker(text, id, job_in(leaf.values.as_slice()))
+        push_maker(text, id, wanted_job(leaf.values.as_slice()))
     } else {
         Ok(())
     }

@@ -22,3 +22,5 @@ pub mod TreeCode
 pub mod Laying
 -- What stands at the root of a part of an expression.
 pub mod Branches
+-- The events of jobs (starting(7), started(7), stopping(7), stopped(7)).
+pub mod JobEvents

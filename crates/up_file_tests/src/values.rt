@@ -1,6 +1,7 @@
 //! The small calls: tests of one text, state or end, and copies.
 use std::alloc::{AllocError, Global};
 use std::test::Fail;
+use up_expr::{Test, is_job_event, wanted_job};
 use up_model::{Goal, State};
 use up_stanza::{Action, Exit, Setting, Signal, has_shell, is_shell};
 use up_text::env::split_pair;
@@ -51,6 +52,51 @@ fn a_pair_is_split_at_its_first_equals_sign(rt: HostRuntime) {
     for (text, pair) in PAIRS {
         assert!(rt; split_pair(text) == *pair, "{text:?}");
     }
+}
+
+const JOB_EVENTS: &[(&str, bool)] = &[
+    ("starting", true),
+    ("started", true),
+    ("stopping", true),
+    ("stopped", true),
+    ("startup", false),
+];
+
+#[test]
+fn jobs_make_four_events(rt: HostRuntime) {
+    for (event, is) in JOB_EVENTS {
+        assert_eq!(rt; is_job_event(event), *is, "{event}");
+    }
+}
+
+fn is_wanted(tests: &[Test], job: &str) -> bool {
+    match wanted_job(tests) {
+        Some(wanted) => wanted.is(job),
+        None => false,
+    }
+}
+
+// `started RESULT=ok JOB=a b`
+fn tests(alloc: Global) -> Result<Items<Test>, AllocError> {
+    let result = Text::from_str(alloc, "RESULT")?;
+    let ok = Text::from_str(alloc, "ok")?;
+    let key = Text::from_str(alloc, "JOB")?;
+    let a = Text::from_str(alloc, "a")?;
+    let b = Text::from_str(alloc, "b")?;
+    let mut tests = Vec::new(alloc);
+    tests.push(Test::Same(result, ok))?;
+    tests.push(Test::Same(key, a))?;
+    tests.push(Test::Place(b))?;
+    Ok(Items::new(tests))
+}
+
+#[test]
+fn tests_want_the_job_that_comes_first(rt: HostRuntime) -> Result<(), Fail> {
+    let tests = tests(rt.alloc())?;
+    assert!(rt; is_wanted(tests.as_slice(), "a"));
+    assert!(rt; is_wanted(&tests.as_slice()[2..], "b"));
+    assert!(rt; wanted_job(&tests.as_slice()[..1]).is_none());
+    Ok(())
 }
 
 const COMMANDS: &[(&[u8], bool)] = &[

@@ -7,7 +7,7 @@ use Rattle.up_conf.specs.declared.job.JobDef.{JobDef}
 use Rattle.up_conf.specs.Jobs.{with_new_item}
 use Rattle.up_expr.specs.declared.expr.Leaf.{Leaf}
 use Rattle.up_expr.specs.Trees.{Tree, One, Both, Either}
-use Rattle.up_lint.specs.Leaves.{job_in}
+use Rattle.up_expr.specs.JobEvents.{wanted_job}
 
 -- whether an event may come that a job makes, where these jobs start: of a job that the folder hasn't nothing is known
 abbrev pub job_may : List Bytes → List Bytes → Option Bytes → Bool
@@ -18,7 +18,7 @@ job_may jobs started (Some job) = not (list_any (bytes_eq job) jobs) || list_any
 abbrev pub leaf_may : List Bytes → List Bytes → Leaf → Bool
 leaf_may jobs started leaf =
     if bytes_eq leaf.event (codes "starting") || bytes_eq leaf.event (codes "started")
-    then job_may jobs started (job_in leaf.values) else true
+    then job_may jobs started (wanted_job leaf.values) else true
 
 -- whether an expression may come true
 abbrev pub tree_may : List Bytes → List Bytes → Tree → Bool

@@ -5,6 +5,7 @@ use Rattle.std.specs.Str.{bytes_eq}
 use Rattle.up_value.specs.Values.{Bytes}
 use Rattle.up_conf.specs.declared.folder.File.{File}
 use Rattle.up_conf.specs.declared.job.JobDef.{JobDef}
+use Rattle.up_expr.specs.JobEvents.{is_job_event}
 use Rattle.up_conf.specs.Folders.{without_ending}
 use Rattle.up_lint.specs.declared.head.Head.{Head}
 use Rattle.up_lint.specs.declared.world.World.{World}
@@ -43,11 +44,6 @@ declared_of files job = flat_map declared_by (sheet_of files job.name)
 -- the events that jobs declare
 abbrev pub declared_in : List File → List JobDef → List Bytes
 declared_in files jobs = flat_map (declared_of files) jobs
-
--- an event that jobs make themselves
-abbrev pub is_job_event : Bytes → Bool
-is_job_event event = bytes_eq event (codes "starting") || bytes_eq event (codes "started")
-    || bytes_eq event (codes "stopping") || bytes_eq event (codes "stopped")
 
 -- whether something gives an event
 unfoldable pub comes : Scene → Bytes → Bool

@@ -10,8 +10,6 @@ pub mod Names
 pub mod Commands
 -- Which events come in a folder, and which jobs it has.
 pub mod Events
--- Whose event an expression waits for.
-pub mod Leaves
 -- Which jobs can be started at all.
 pub mod Circles
 -- Which jobs no event stops.

@@ -16,8 +16,8 @@ use Rattle.up_lint.specs.declared.question.Side.TheVariants.{Start, Stop}
 use Rattle.up_lint.specs.declared.warning.Kind.{Kind}
 use Rattle.up_lint.specs.declared.warning.Kind.TheVariants as kind
 use Rattle.up_lint.specs.declared.warning.Warning.{Warning}
-use Rattle.up_lint.specs.Events.{Scene, is_job_event, is_known}
-use Rattle.up_lint.specs.Leaves.{job_in}
+use Rattle.up_lint.specs.Events.{Scene, is_known}
+use Rattle.up_expr.specs.JobEvents.{is_job_event, wanted_job}
 use Rattle.up_lint.specs.Sheets.{spot_of}
 use Rattle.up_lint.specs.Warnings.{warning_of}
 
@@ -37,12 +37,12 @@ missing_job scene (Some job) =
 
 -- the job of whose event an expression waits, if it isn't there
 abbrev pub unknown_job : Scene → Leaf → Option Bytes
-unknown_job scene leaf = if is_job_event leaf.event then missing_job scene (job_in leaf.values) else None
+unknown_job scene leaf = if is_job_event leaf.event then missing_job scene (wanted_job leaf.values) else None
 
 -- the job, if nothing but it is asked for
 abbrev pub job_alone : List Test → Option Bytes
 job_alone [] = None
-job_alone (test ∷ []) = job_in (test ∷ [])
+job_alone (test ∷ []) = wanted_job (test ∷ [])
 job_alone (test ∷ second ∷ others) = None
 
 abbrev pub is_this : Bytes → Option Bytes → Bool

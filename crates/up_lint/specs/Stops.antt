@@ -6,14 +6,14 @@ use Rattle.up_conf.specs.declared.job.JobDef.{JobDef}
 use Rattle.up_expr.specs.declared.expr.Leaf.{Leaf}
 use Rattle.up_expr.specs.Trees.{Tree, One, Both, Either}
 use Rattle.up_lint.specs.Circles.{job_may}
-use Rattle.up_lint.specs.Events.{Scene, is_job_event}
-use Rattle.up_lint.specs.Leaves.{job_in}
+use Rattle.up_lint.specs.Events.{Scene}
+use Rattle.up_expr.specs.JobEvents.{is_job_event, wanted_job}
 
 -- whether an event may be handled after one by which a `start on` comes true: the init gives `startup` once, before all others, and a job
 -- that isn't started makes none
 abbrev pub may_follow : Scene → Leaf → Bool
 may_follow scene leaf = if list_any (bytes_eq leaf.event) scene.given then true
-    else (if is_job_event leaf.event then job_may scene.jobs scene.started (job_in leaf.values)
+    else (if is_job_event leaf.event then job_may scene.jobs scene.started (wanted_job leaf.values)
     else not (bytes_eq leaf.event (codes "startup")))
 
 -- whether an expression may come true by such events

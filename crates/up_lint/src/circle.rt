@@ -2,11 +2,10 @@
 ghost use Rattle.std.specs.Prelude.{◌≡◌, IfOk, OnOk, option_copied};
 ghost use Rattle.up_lint.specs.Circles.{condition_may, job_may, leaf_may, may_start, started_after, started_in, tree_may, with_started};
 
-use crate::leaf::job_in;
 use crate::names::Names;
 use std::alloc::{AllocError, Global};
 use up_conf::JobDef;
-use up_expr::{Branch, Condition, Leaf, Root};
+use up_expr::{Branch, Condition, Leaf, Root, wanted_job};
 use up_text::Text;
 
 /// Whether an event of this job may occur: the job isn't in the folder, or it can be started, or no job is named.
@@ -27,7 +26,7 @@ fn leaf_may(names: &Names<'_>, started: &Names<'_>, leaf: &Leaf) -> bool
 {
     let event = leaf.event.as_str();
     if event == "starting" || event == "started" {
-        job_may(names, started, job_in(leaf.values.as_slice()))
+        job_may(names, started, wanted_job(leaf.values.as_slice()))
     } else {
         true
     }

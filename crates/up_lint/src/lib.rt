@@ -7,7 +7,6 @@ mod exports;
 mod gather;
 mod head;
 mod job;
-mod leaf;
 mod lint;
 mod names;
 mod next;

@@ -6,12 +6,11 @@ ghost use Rattle.up_lint.specs.Events.{scene_of};
 ghost use Rattle.up_lint.specs.Questions.{about, condition_warnings, gathered, is_in_vain, is_special, is_this, job_alone, kind_of, missing_job, own_event, unknown_event, unknown_job, with_about, word_of};
 
 use crate::head::{Head, has_text};
-use crate::leaf::job_in;
 use crate::sheet::spot_of;
 use crate::warning::{Kind, Warning, push_warnings};
-use crate::world::{World, is_job_event, is_known};
+use crate::world::{World, is_known};
 use std::alloc::{AllocError, Global};
-use up_expr::{Condition, Leaf, Node, Test};
+use up_expr::{Condition, Leaf, Node, Test, is_job_event, wanted_job};
 use up_text::{Items, Text};
 
 /// A check of an event.
@@ -76,7 +75,7 @@ fn unknown_job<'l>(world: &World<'_>, leaf: &'l Leaf) -> Option<&'l str>
     ensures { option_copied result ≡ unknown_job (scene_of world.now) leaf.now }
 {
     if is_job_event(leaf.event.as_str()) {
-        missing_job(world, job_in(leaf.values.as_slice()))
+        missing_job(world, wanted_job(leaf.values.as_slice()))
     } else {
         None
     }
@@ -87,7 +86,7 @@ fn job_alone(tests: &[Test]) -> Option<&Text>
     ensures { option_copied result ≡ job_alone tests.now }
 {
     match tests {
-        [_] => job_in(tests),
+        [_] => wanted_job(tests),
         _ => None,
     }
 }

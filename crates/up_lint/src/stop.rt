@@ -4,10 +4,9 @@ ghost use Rattle.up_lint.specs.Events.{scene_of};
 ghost use Rattle.up_lint.specs.Stops.{is_never_stopped, is_stopped_by_none, may_follow, tree_follows};
 
 use crate::circle::job_may;
-use crate::leaf::job_in;
-use crate::world::{World, is_job_event};
+use crate::world::World;
 use up_conf::JobDef;
-use up_expr::{Branch, Condition, Leaf, Root};
+use up_expr::{Branch, Condition, Leaf, Root, is_job_event, wanted_job};
 
 // Whether an event may be handled after one that makes a `start on` true.
 fn may_follow(world: &World<'_>, leaf: &Leaf) -> bool
@@ -17,7 +16,11 @@ fn may_follow(world: &World<'_>, leaf: &Leaf) -> bool
     if world.given.has(event.as_bytes()) {
         true
     } else if is_job_event(event) {
-        job_may(&world.jobs, &world.started, job_in(leaf.values.as_slice()))
+        job_may(
+            &world.jobs,
+            &world.started,
+            wanted_job(leaf.values.as_slice()),
+        )
     } else {
         event != "startup"
     }

@@ -2,13 +2,14 @@
 ghost use Rattle.std.specs.Prelude.{◌≡◌, ◌++◌, IfOk, OnOk, codes, option_copied};
 ghost use Rattle.std.specs.List.{flat_map};
 ghost use Rattle.up_conf.specs.Folders.{without_ending};
-ghost use Rattle.up_lint.specs.Events.{comes, declared_by, declared_in, declared_of, is_job_event, is_known, scene_of};
+ghost use Rattle.up_lint.specs.Events.{comes, declared_by, declared_in, declared_of, is_known, scene_of};
 
 use crate::head::Head;
 use crate::names::Names;
 use crate::sheet::sheet_of;
 use std::alloc::{AllocError, Global};
 use up_conf::{File, JobDef};
+use up_expr::is_job_event;
 use up_text::{Items, Text};
 
 /// The names with which a job is checked.
@@ -80,13 +81,6 @@ pub(crate) fn declared_in(
         push_declared_of(&mut events, files, job)?;
     }
     Ok(Items::new(events))
-}
-
-/// Whether init emits the event for a job by itself.
-pub(crate) fn is_job_event(event: &str) -> bool
-    ensures { result ≡ is_job_event event.now }
-{
-    event == "starting" || event == "started" || event == "stopping" || event == "stopped"
 }
 
 // Whether the event may occur: `startup`, a job's event, or one that is emitted.
