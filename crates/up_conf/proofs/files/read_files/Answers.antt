@@ -7,9 +7,9 @@ use Rattle.up_conf.proofs.files.read_files.Goals as goal
 
 pub loop-file-preserved : goal.loop-file-preserved
 loop-file-preserved c =
-    let files = c.args.index.now in
-    let job = c.in_ok-outcome.ensures.job in
-    let fault = c.in_ok-outcome.ensures.fault in
+    let files = c.files-files.result.now in
+    let job = rw (← c.files-files.ensures) at c.in_ok-outcome.ensures.job in
+    let fault = rw (← c.files-files.ensures) at c.in_ok-outcome.ensures.fault in
     record {
       jobs = kept (job_of_file files) files c.loop-file.file-index c.file-item.result _ _ c.loop-file-test.true c.file-item.is c.loop-file.invariant.jobs
           (c.in_ok-keep.ensures.jobs ∙ ap (λ outcome. c.loop-file.jobs.items ++ option_to_list outcome) job);
