@@ -1,5 +1,5 @@
 -- An effect that concerns one instance: no other may move.
-use Rattle.std.proofs.Common.{◌≡◌, ℕ, zero, suc, ◌==◌, Bool, true, false, not, List, [], ◌∷◌, ◌++◌, Option, None, Some, is_some, slice_get, bytes_eq, option_map, if◌then◌else◌, refl, sym, ◌∙◌, ap, subst}
+use Rattle.std.proofs.Common.{◌≡◌, ℕ, zero, suc, ◌==◌, Bool, true, false, not, List, [], ◌∷◌, ◌++◌, length, Option, None, Some, is_some, slice_get, bytes_eq, option_map, if◌then◌else◌, refl, sym, ◌∙◌, ap, subst, arith, ne_eqb}
 use Rattle.std.specs.Prelude.{option_and_then}
 use Rattle.std.specs.List.{AllByRecursion}
 use Rattle.up_conf.specs.declared.job.JobDef.{JobDef}
@@ -74,6 +74,18 @@ stay-one (suc n) jobs job x c stay = by_case (may_leave job x.place c) (stay-one
 rests-all : (jobs : List JobDef) (c : Chronicle) → RestAll jobs c → settle_all jobs c ≡ c
 rests-all [] c rest = refl
 rests-all (job ∷ jobs) c rest = ap (settle_all jobs) (each-still (instances_of job.name c) c rest.0) ∙ rests-all jobs c rest.1
+
+-- nor does any move if none but a new one might
+rest-in : (job : Bytes) (its : List Instance) (c : Chronicle) → AllByRecursion (IsKnown job c) its → StayIn (length c) its c → Rest its c
+rest-in job [] c known all = tt
+rest-in job (x ∷ its) c known all = (all.0 (ne_eqb x.place (length c) (λ same. omega (arith, known.0.0))), rest-in job its c known.1 all.1)
+
+rest-jobs : (jobs : List JobDef) (c : Chronicle) → Stay (length c) jobs c → RestAll jobs c
+rest-jobs [] c stay = tt
+rest-jobs (job ∷ jobs) c stay = (rest-in job.name (instances_of job.name c) c (known-all job.name c) stay.0, rest-jobs jobs c stay.1)
+
+pub still-settles : (jobs : List JobDef) (c : Chronicle) → Stay (length c) jobs c → settle_all jobs c ≡ c
+still-settles jobs c stay = rests-all jobs c (rest-jobs jobs c stay)
 
 others-rest : (jobs : List JobDef) (its : JobDef) (x : Instance) (c d : Chronicle) → AllByRecursion (λ other. bytes_eq other.name its.name ≡ false) jobs → made_at x.place c ≡ Some (called its.name x.name)
     → ((job : JobDef) → bytes_eq job.name its.name ≡ false → instances_of job.name d ≡ instances_of job.name c) → Stay x.place jobs d → RestAll jobs d

@@ -1,5 +1,5 @@
--- After a request that starts, stops or restarts an instance that one alone may move, and after one that is answered at once nobody.
-use Rattle.std.proofs.Common.{◌≡◌, ℕ, ◌==◌, Bool, true, false, not, ◌&&◌, nat_lt, List, [], ◌∷◌, ◌++◌, length, Option, None, Some, if◌then◌else◌, refl, sym, ◌∙◌, ap, subst, eqb-true, eq-eqb, codes, append_assoc}
+-- After a request that starts, stops or restarts an instance that one alone may move, and after any other request nobody.
+use Rattle.std.proofs.Common.{◌≡◌, ℕ, ◌==◌, Bool, true, false, not, ◌&&◌, nat_lt, List, [], ◌∷◌, ◌++◌, length, Option, None, Some, if◌then◌else◌, refl, sym, ◌∙◌, ap, subst, eqb-true, eq-eqb, codes, append_assoc, bytes_eq}
 use Rattle.std.specs.List.{AllByRecursion}
 use Rattle.up_book.specs.Keeps.{AreDistinct}
 use Rattle.up_book.specs.Keys.{instance_place}
@@ -7,21 +7,22 @@ use Rattle.up_book.proofs.Keyed.{job-there}
 use Rattle.up_conf.specs.declared.job.JobDef.{JobDef}
 use Rattle.up_engine.specs.declared.due.Concern.{Concern}
 use Rattle.up_engine.specs.declared.due.Concern.TheVariants as on
-use Rattle.up_engine.specs.Effects.{ActsOn, Concerns as ConcernsOf, IsAlone, IsCalled}
+use Rattle.up_engine.specs.Effects.{ActsOn, Concerns as ConcernsOf, IsAlone, IsCalled, IsIdle}
 use Rattle.up_engine.specs.Requests.{answer_of}
-use Rattle.up_engine.proofs.Alone.{Own, here, one-settles}
+use Rattle.up_engine.proofs.Alone.{Own, here, one-settles, still-settles}
 use Rattle.up_cascade.proofs.Effects.{effect-offers, none-due, stay-entries}
 use Rattle.up_cascade.proofs.Firing.{stay-made, stay-still, still-stay}
+use Rattle.up_cascade.specs.Settling.{settle_all}
 use Rattle.up_cascade.proofs.Hearing.{none-moves}
 use Rattle.up_cascade.proofs.JobMoves.{move_first}
 use Rattle.up_cascade.proofs.Moving.{StayIn, Stay}
 use Rattle.up_cascade.proofs.Opening.{About}
 use Rattle.up_cascade.proofs.Settled.{still-instances}
 use Rattle.up_job.specs.declared.instance_key.InstanceKey.{InstanceKey}
-use Rattle.up_model.proofs.NameLaws.{made-found}
+use Rattle.up_model.proofs.Places.{bytes_refl}
 use Rattle.up_model.proofs.ReplyLaws.{releasing-all}
 use Rattle.up_model.proofs.Sparing.{same-append}
-use Rattle.up_engine.proofs.Quiet.{none-asked, stays-quiet}
+use Rattle.up_engine.proofs.Quiet.{stays-quiet}
 use Rattle.up_model.specs.Chronicle.{Chronicle, Entry, Given, Queued, Made, Aimed, Restarted, Signalled, Replied, Outside}
 use Rattle.up_model.specs.Queue.{queue}
 use Rattle.up_model.specs.Commands.{Outcome, Refused, Told, Done, Target, Nobody, Concerns, entries_of, start_at, stop_at, restart_at, start, stop, restart, is_running, refusal, status, status_at, stopped_text, reload, reload_at, reloading, listing, version_text, max_events, outcome_by, outcome_of, known_target}
@@ -29,7 +30,7 @@ use Rattle.up_model.specs.Configuration.{Configuration}
 use Rattle.up_model.specs.Due.{due, effect}
 use Rattle.up_model.specs.Events.{with_instance as with_variables}
 use Rattle.up_model.specs.Files.{own_file}
-use Rattle.up_model.specs.Instances.{Instance, instances_of, place_named, instance_named}
+use Rattle.up_model.specs.Instances.{Instance, is_before, with_instance, instances_of, place_named, instance_named}
 use Rattle.up_model.specs.Life.{Wait, ForStart, ForEvent, ForAnswer, ForProcess, ForChange, ForMain, wait_in}
 use Rattle.up_model.specs.Moves.{is_over}
 use Rattle.up_model.specs.Offers.{offering, max_instances}
@@ -76,14 +77,33 @@ own-about : (i : ℕ) (es : List Entry) → AllByRecursion (Own i) es → AllByR
 own-about i [] all = tt
 own-about i (e ∷ es) all = (all.0.0, own-about i es all.1)
 
-some-same : {a b : ℕ} → Some a ≡ Some b → a ≡ b
-some-same same = cc
+-- the place of an instance, if there is one, and else any
+abbrev pub IsFor : ℕ → Option ℕ → Type 0
+IsFor i None = Unit {0}
+IsFor i (Some j) = j ≡ i
 
-own-stays : (jobs : List JobDef) (who : Who) (j : ℕ) (es c : List Entry) → AllByRecursion (Own j) es → instance_named who c ≡ Some j → ((p : ℕ) → Stay p jobs c) → (i : ℕ) → instance_named who (es ++ c) ≡ Some i
+own-stays : (jobs : List JobDef) (who : Who) (j : ℕ) (es c : List Entry) → AllByRecursion (Own j) es → instance_named who c ≡ Some j → ((p : ℕ) → Stay p jobs c) → (i : ℕ) → IsFor i (instance_named who (es ++ c))
     → Stay i jobs (es ++ c)
 own-stays jobs who j es c own there stays i found =
-    let same : j ≡ i = some-same (sym there ∙ sym (still-named who j es c own) ∙ found) in
+    let same : j ≡ i = subst (IsFor i) (still-named who j es c own ∙ there) found in
     subst (λ p. Stay p jobs (es ++ c)) same (stay-entries j jobs es c (own-about j es own) (stays j))
+
+-- a new instance is found by its name
+new-with : (y : Instance) (ys : List Instance) → place_named y.name ys ≡ None → place_named y.name (with_instance y ys) ≡ Some y.place
+new-with y [] none = rw (bytes_refl y.name) refl
+new-with y (z ∷ zs) none = by_case (is_before z y) (bytes_eq z.name y.name) refl none (new-with y zs)
+  where
+    by_case : (b its : Bool) → bytes_eq z.name y.name ≡ its → (if its then Some z.place else place_named y.name zs) ≡ None
+        → (place_named y.name zs ≡ None → place_named y.name (with_instance y zs) ≡ Some y.place)
+        → place_named y.name (if b then z ∷ with_instance y zs else y ∷ z ∷ zs) ≡ Some y.place
+    by_case true true same none ih = cc
+    by_case true false differs none ih = rw differs (ih none)
+    by_case false its e none ih = rw (bytes_refl y.name) refl
+
+made-there : (job : JobDef) (who : Who) (c : Chronicle) → job.name ≡ who.job → instance_named who c ≡ None → instance_named who (Made job who.instance ∷ c) ≡ Some (length c)
+made-there job who c same none =
+    let its : bytes_eq job.name who.job ≡ true = subst (λ n. bytes_eq n who.job ≡ true) (sym same) (bytes_refl who.job) in
+    rw its (new-with (record { place = length c; name = who.instance; file = job }) (instances_of who.job c) none)
 
 told-stays : (jobs : List JobDef) (g : ℕ) (answer : Answer) (c : Chronicle) → ((p : ℕ) → Stay p jobs c) → (i : ℕ) → Stay i jobs (Replied g answer ∷ c)
 told-stays jobs g answer c stays i = stay-entries i jobs (Replied g answer ∷ []) c (tt, tt) (stays i)
@@ -93,28 +113,28 @@ release-own j c = releasing-all (Own j) (λ request answer. (tt, tt)) j false (t
 
 -- so do a start, a stop and a restart
 abbrev Leaves : List JobDef → Who → (es c : List Entry) → Type 0
-Leaves jobs who es c = (i : ℕ) → instance_named who (es ++ c) ≡ Some i → Stay i jobs (es ++ c)
+Leaves jobs who es c = (i : ℕ) → IsFor i (instance_named who (es ++ c)) → Stay i jobs (es ++ c)
 
-start-leaves : (jobs : List JobDef) (g : ℕ) (holders : List ℕ) (job : JobDef) (who : Who) (environment : Bindings) (c : Chronicle) → ((p : ℕ) → Stay p jobs c) → (o : Option ℕ) → instance_named who c ≡ o
-    → Leaves jobs who (entries_of g (start_at holders job who environment o c)) c
-start-leaves jobs g holders job who environment c stays None none = by_room (nat_lt (length (instances_of who.job c)) max_instances)
+start-leaves : (jobs : List JobDef) (g : ℕ) (holders : List ℕ) (job : JobDef) (who : Who) (environment : Bindings) (c : Chronicle) → ((p : ℕ) → Stay p jobs c) → job.name ≡ who.job
+    → (o : Option ℕ) → instance_named who c ≡ o → Leaves jobs who (entries_of g (start_at holders job who environment o c)) c
+start-leaves jobs g holders job who environment c stays named None none = by_room (nat_lt (length (instances_of who.job c)) max_instances)
   where
     new : List Entry
     new = Aimed (length c) Start environment holders ∷ Made job who.instance ∷ []
 
-    by_place : (i : ℕ) (b : Bool) → (length c == i) ≡ b → instance_named who (new ++ c) ≡ Some i → Stay i jobs (new ++ c)
+    by_place : (i : ℕ) (b : Bool) → (length c == i) ≡ b → IsFor i (instance_named who (new ++ c)) → Stay i jobs (new ++ c)
     by_place i true same found =
         subst (λ p. Stay p jobs (new ++ c)) (eqb-true (length c) i same)
         (stay-entries (length c) jobs (Aimed (length c) Start environment holders ∷ []) (Made job who.instance ∷ c) (refl, tt) (stay-made jobs job who.instance c (stays (length c))))
     by_place i false apart found =
-        let before : instance_named who c ≡ Some i = made-found who job who.instance i c apart found in
-        let both : None ≡ Some i = sym none ∙ before in
+        let same : length c ≡ i = subst (IsFor i) (made-there job who c named none) found in
+        let both : false ≡ true = sym apart ∙ eq-eqb (length c) i same in
         absurd cc
 
     by_room : (b : Bool) → Leaves jobs who (entries_of g (if b then Done (entries_if b new) else Refused (codes "Too many instances: " ++ who.job))) c
     by_room true i found = by_place i (length c == i) refl found
     by_room false i found = told-stays jobs g _ c stays i
-start-leaves jobs g holders job who environment c stays (Some j) there = by_goal (is_start (goal j c))
+start-leaves jobs g holders job who environment c stays named (Some j) there = by_goal (is_start (goal j c))
   where
     its : List Entry
     its = Aimed j Start environment holders ∷ releasing j false c
@@ -152,10 +172,16 @@ abbrev pub NamedBy : Target → Who → Type 0
 NamedBy (Nobody text) who = ⊥
 NamedBy (Concerns job its environment) who = its ≡ who
 
-pub start-named : (jobs : List JobDef) (g : ℕ) (holders : List ℕ) (target : Target) (who : Who) (c : Chronicle) → ((p : ℕ) → Stay p jobs c) → NamedBy target who → Leaves jobs who (entries_of g (start holders target c)) c
-start-named jobs g holders (Nobody text) who c stays named = absurd named
-start-named jobs g holders (Concerns job its environment) who c stays named =
-    subst (λ w. Leaves jobs w (entries_of g (start_at holders job its (with_variables its environment) (instance_named its c) c)) c) named (start-leaves jobs g holders job its (with_variables its environment) c stays (instance_named its c) refl)
+-- and by its own job
+abbrev pub NamedByJob : Target → Type 0
+NamedByJob (Nobody text) = ⊥
+NamedByJob (Concerns job its environment) = job.name ≡ its.job
+
+pub start-named : (jobs : List JobDef) (g : ℕ) (holders : List ℕ) (target : Target) (who : Who) (c : Chronicle) → ((p : ℕ) → Stay p jobs c) → NamedBy target who → NamedByJob target
+    → Leaves jobs who (entries_of g (start holders target c)) c
+start-named jobs g holders (Nobody text) who c stays named own = absurd named
+start-named jobs g holders (Concerns job its environment) who c stays named own =
+    subst (λ w. Leaves jobs w (entries_of g (start_at holders job its (with_variables its environment) (instance_named its c) c)) c) named (start-leaves jobs g holders job its (with_variables its environment) c stays own (instance_named its c) refl)
 
 pub stop-named : (jobs : List JobDef) (g : ℕ) (holders : List ℕ) (vars : Bindings) (target : Target) (who : Who) (c : Chronicle) → ((p : ℕ) → Stay p jobs c) → NamedBy target who
     → Leaves jobs who (entries_of g (stop holders vars target c)) c
@@ -268,17 +294,23 @@ acts-concerns places concern config id request c acts = by_concern concern acts
 
     by_concern : (its : Concern) → ActsOn its config c (entries ++ Given (input.Request id request) ∷ c) → ConcernsOf places its config (input.Request id request) c
     by_concern on.Nobody acts = λ none. ap (due config) whole ∙ acts none
+    by_concern on.Client acts = λ none. subst (IsIdle config) (sym whole) (acts none (asked-offers config id request c))
     by_concern (on.Instance key) acts = λ none. subst (IsAlone key config) (sym whole) (acts none (asked-offers config id request c))
     by_concern (on.Event key) acts = absurd acts
     by_concern on.Anybody acts = ap offering whole ∙ asked-offers config id request c
 
--- an instance that is found by its names alone may move, if all others stay
+-- an instance that is found by its names alone may move, if all others stay; and if none is found, none may
 pub called-acts : (concern : Concern) (config : Configuration) (who : Who) (c d : Chronicle) → AreDistinct config.jobs → IsCalled concern config who d
-    → (due config c ≡ [] → (i : ℕ) → instance_named who d ≡ Some i → Stay i config.jobs d) → ActsOn concern config c d
+    → (due config c ≡ [] → (i : ℕ) → IsFor i (instance_named who d) → Stay i config.jobs d) → ActsOn concern config c d
 called-acts on.Nobody config who c d distinct called leaves = absurd called
 called-acts (on.Event key) config who c d distinct called leaves = absurd called
-called-acts on.Anybody config who c d distinct called leaves = tt
-called-acts (on.Instance key) config who c d distinct called leaves = λ none unasked. acted-alone config d key called.0 distinct called.1.0 (leaves none called.0 called.1.1) unasked
+called-acts on.Anybody config who c d distinct called leaves = absurd called
+called-acts on.Client config who c d distinct called leaves = λ none unasked. record {
+  still = still-settles config.jobs d (leaves none (length d) (subst (IsFor (length d)) (sym called) tt));
+  unasked = unasked;
+}
+called-acts (on.Instance key) config who c d distinct called leaves = λ none unasked.
+    acted-alone config d key called.0 distinct called.1.0 (leaves none called.0 (subst (IsFor called.0) (sym called.1.1) refl)) unasked
 
 -- the commands that are answered at once
 abbrev pub IsAnswered : Command → Type 0
@@ -311,11 +343,13 @@ answered-due its config id request c is answered none =
     by_command command.Restart answered = absurd answered
     by_command command.Emit answered = absurd answered
 
--- and after an `emit` of a client that waits for the event
-pub emitted-due : (config : Configuration) (id : ℕ) (request : RequestValue) (c : Chronicle) → request.command ≡ command.Emit → request.wait ≡ true → due config c ≡ []
-    → due config (entries_of (length c) (outcome_of config (length c) request (Given (input.Request id request) ∷ c)) ++ Given (input.Request id request) ∷ c) ≡ []
-emitted-due config id request c is waits none =
-    subst (λ its. due config (entries_of (length c) (outcome_by its config (length c) request d) ++ d) ≡ []) (sym is) (by_room (nat_lt (length (queue d)) max_events))
+-- and after an `emit` its client alone may be answered
+pub emitted-idle : (config : Configuration) (id : ℕ) (request : RequestValue) (c : Chronicle) → request.command ≡ command.Emit
+    → ActsOn on.Client config c (entries_of (length c) (outcome_of config (length c) request (Given (input.Request id request) ∷ c)) ++ Given (input.Request id request) ∷ c)
+emitted-idle config id request c is none unasked = record {
+  still = subst (λ its. IsStill (entries_of (length c) (outcome_by its config (length c) request d) ++ d)) (sym is) (by_room (nat_lt (length (queue d)) max_events));
+  unasked = unasked;
+}
   where
     d : Chronicle
     d = Given (input.Request id request) ∷ c
@@ -323,12 +357,10 @@ emitted-due config id request c is waits none =
     queued : Entry
     queued = Queued (Outside (length c)) (record { name = request.name; vars = request.vars })
 
-    still : move_first config.jobs (queued ∷ d) ≡ []
-    still = still-stay config.jobs (queued ∷ d) (stays-quiet (length (queued ∷ d)) config.jobs (queued ∷ []) d (tt, tt) (asked-stays config id request c none (length (queued ∷ d))))
+    IsStill : Chronicle → Type 0
+    IsStill after = settle_all config.jobs after ≡ after
 
-    unasked : asked (queued ∷ d) ≡ None
-    unasked = ap (λ (b : Bool). if b then None else Some (length c)) waits
-
-    by_room : (b : Bool) → due config (entries_of (length c) (if b then Done (queued ∷ []) else Refused (codes "Too many events")) ++ d) ≡ []
-    by_room true = none-due config (queued ∷ d) still refl ∙ none-asked (queued ∷ d) unasked
-    by_room false = outcome-due config id request (Refused (codes "Too many events")) c tt none
+    by_room : (b : Bool) → IsStill (entries_of (length c) (if b then Done (queued ∷ []) else Refused (codes "Too many events")) ++ d)
+    by_room true = still-settles config.jobs (queued ∷ d) (stays-quiet (length (queued ∷ d)) config.jobs (queued ∷ []) d (tt, tt) (asked-stays config id request c none (length (queued ∷ d))))
+    by_room false = let told : Chronicle = Replied (length c) (record { ok = false; text = codes "Too many events" }) ∷ d in
+        still-settles config.jobs told (told-stays config.jobs (length c) _ d (asked-stays config id request c none) (length told))

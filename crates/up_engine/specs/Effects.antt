@@ -2,7 +2,7 @@
 use Rattle.std.specs.Prelude.{◌≡◌, ℕ, List, [], ◌∷◌, ◌++◌, Option, None, Some}
 use Rattle.up_book.specs.Keys.{instance_at, instance_place}
 use Rattle.up_engine.specs.declared.due.Concern.{Concern}
-use Rattle.up_engine.specs.declared.due.Concern.TheVariants.{Nobody, Instance as Instance', Event, Anybody}
+use Rattle.up_engine.specs.declared.due.Concern.TheVariants.{Nobody, Client, Instance as Instance', Event, Anybody}
 use Rattle.up_cascade.specs.Settling.{settle_one, settle_all}
 use Rattle.up_job.specs.declared.instance_key.InstanceKey.{InstanceKey}
 use Rattle.up_model.specs.declared.event_id.EventId.{EventId}
@@ -30,26 +30,34 @@ pub record IsAlone (key : InstanceKey) (config : Configuration) (c : Chronicle) 
   pub settles : settle_all config.jobs c ≡ settle_one 5 its.file its c
   pub unasked : offering c ≡ None
 
--- whom the effect of an input concerns, if nothing was due before it: nobody, so that nothing is due after it; an instance; those that
--- hear of an event, which it takes up; or whoever may move
+-- no instance may move, and no event is taken up
+pub record IsIdle (config : Configuration) (c : Chronicle) : Type 0 where
+  pub still : settle_all config.jobs c ≡ c
+  pub unasked : offering c ≡ None
+
+-- whom the effect of an input concerns, if nothing was due before it: nobody, so that nothing is due after it; the client of a request alone,
+-- who may be answered; an instance; those that hear of an event, which it takes up; or whoever may move
 abbrev pub Concerns : (Chronicle → EventId → Option ℕ) → Concern → Configuration → Input → Chronicle → Type 0
 Concerns places Nobody config given c = due config c ≡ [] → due config (effect config given c ++ c) ≡ []
+Concerns places Client config given c = due config c ≡ [] → IsIdle config (effect config given c ++ c)
 Concerns places (Instance' key) config given c = due config c ≡ [] → IsAlone key config (effect config given c ++ c)
 Concerns places (Event key) config given c = (e : ℕ) × (effect config given c ++ c ≡ Handled e ∷ Given Turn ∷ c)
     × (places (Handled e ∷ Given Turn ∷ c) key ≡ Some e)
 Concerns places Anybody config given c = offering (effect config given c ++ c) ≡ None
 
--- whom the entries after a request concern, if nothing was due before it: nobody, an instance, or whoever may move
+-- whom the entries after a request concern, if nothing was due before it: nobody, its client, an instance, or whoever may move
 abbrev pub ActsOn : Concern → Configuration → (before after : Chronicle) → Type 0
 ActsOn Nobody config c d = due config c ≡ [] → due config d ≡ []
+ActsOn Client config c d = due config c ≡ [] → offering d ≡ None → IsIdle config d
 ActsOn (Instance' key) config c d = due config c ≡ [] → offering d ≡ None → IsAlone key config d
 ActsOn (Event key) config c d = ⊥
 ActsOn Anybody config c d = Unit {0}
 
--- an instance by its names, if it is there; and else whoever may move
+-- an instance by its names, if it is there; and else the client alone
 abbrev pub IsCalled : Concern → Configuration → Who → Chronicle → Type 0
 IsCalled (Instance' key) config who c = (i : ℕ) × ((instance_place config c key ≡ Some i) × (instance_named who c ≡ Some i))
-IsCalled Anybody config who c = Unit {0}
+IsCalled Client config who c = instance_named who c ≡ None
+IsCalled Anybody config who c = ⊥
 IsCalled Nobody config who c = ⊥
 IsCalled (Event key) config who c = ⊥
 

@@ -17,7 +17,7 @@ use Rattle.up_model.specs.Queue.{Live, live_at, queue}
 use Rattle.up_model.specs.Readings.{blocker, event_at}
 use Rattle.up_model.specs.Replies.{waiter}
 use Rattle.up_engine.specs.declared.due.Concern.{Concern}
-use Rattle.up_engine.specs.declared.due.Concern.TheVariants.{Nobody, Instance as Instance', Event as Event', Anybody}
+use Rattle.up_engine.specs.declared.due.Concern.TheVariants.{Nobody, Client, Instance as Instance', Event as Event', Anybody}
 use Rattle.up_cascade.specs.Unheard.{NoneHears}
 
 -- an event is over of which nobody is told: no instance let it go as failed, and no client and no instance waits for it
@@ -62,4 +62,5 @@ abbrev pub ConcernsNone : (Chronicle → EventId → Option ℕ) → Configurati
 ConcernsNone places config c Nobody = Unit {0}
 ConcernsNone places config c (Event' key) = (e : ℕ) × ((places c key ≡ Some e) × NoneHears config (event_at e c) c)
 ConcernsNone places config c (Instance' key) = ⊥
+ConcernsNone places config c Client = ⊥
 ConcernsNone places config c Anybody = ⊥

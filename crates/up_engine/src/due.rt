@@ -31,6 +31,8 @@ use up_model::{End, Event, EventId, How, Input, Process, Who};
 pub(crate) enum Concern {
     /// No instance, so that none may move.
     Nobody,
+    /// The client of a request alone, who is answered now if it doesn't wait: no instance may move.
+    Client,
     /// The instance of this key.
     Instance(InstanceKey),
     /// The jobs that hear of this event.

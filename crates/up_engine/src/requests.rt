@@ -156,14 +156,14 @@ fn start_who<B: Book>(
     Ok(())
 }
 
-// The instance of these names, if it exists after a request.
+// The instance of these names, if it exists after a request; if not, the request was refused.
 fn concern_of<B: Book>(book: &B, index: usize, who: &Who) -> Concern
     ensures { (mode : Mode) (config : Configuration) (c : Chronicle) → B.stands book.now mode config c
         → name_at config index ≡ Some who.now.job → IsCalled result config who.now c }
 {
     match book.find(index, who.instance.as_str()) {
         Some(key) => Concern::Instance(key),
-        None => Concern::Anybody,
+        None => Concern::Client,
     }
 }
 
@@ -547,11 +547,8 @@ fn change<B: Book>(
         }
         Command::Emit => {
             emit(alloc, book, name.as_str(), vars)?;
-            if wait {
-                // The event isn't heard before its turn.
-                return Ok(Concern::Nobody);
-            }
-            Ok(Concern::Anybody)
+            // The event isn't heard before its turn.
+            Ok(Concern::Client)
         }
         Command::Version => {
             let text = version(alloc)?;

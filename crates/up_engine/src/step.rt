@@ -31,6 +31,9 @@ pub(crate) fn run_step<B: Book>(
     setup.names_differ();
     match apply_effect(alloc, setup, book, input)? {
         Concern::Nobody => {}
+        Concern::Client => {
+            book.reply_last()?;
+        }
         Concern::Instance(key) => settle_alone(alloc, setup, book, key)?,
         Concern::Event(event) => hear_all(alloc, setup, book, event)?,
         Concern::Anybody => settle_jobs(alloc, setup, book)?,

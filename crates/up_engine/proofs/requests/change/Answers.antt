@@ -1,7 +1,7 @@
-use Rattle.std.proofs.Common.{◌≡◌, Bool, ◌∷◌, ◌++◌, ◌∙◌, length, sym, ap, subst}
+use Rattle.std.proofs.Common.{◌≡◌, ◌∷◌, ◌++◌, ◌∙◌, length, sym, ap, subst}
 use Rattle.up_book.specs.Keys.{Stepping}
 use Rattle.up_engine.specs.Requests.{target_of as said_of}
-use Rattle.up_engine.proofs.Asked.{answered-due, emitted-due, status-told, told-entries}
+use Rattle.up_engine.proofs.Asked.{answered-due, emitted-idle, status-told, told-entries}
 use Rattle.up_model.specs.Chronicle.{Chronicle, Given, Replied}
 use Rattle.up_model.specs.Commands.{entries_of, known_target, outcome_of, reload, status}
 use Rattle.up_model.specs.declared.request.Command.TheVariants as command
@@ -13,13 +13,9 @@ use Rattle.up_engine.proofs.requests.change.Goals as goal
 asks : {parts request : RequestValue} {its : Command} → parts ≡ request → parts.command ≡ its → request.command ≡ its
 asks same is = sym (ap (λ (r : RequestValue). r.command) same) ∙ is
 
--- and whether its client waits
-waits_by : {parts request : RequestValue} {b : Bool} → parts ≡ request → parts.wait ≡ b → request.wait ≡ b
-waits_by same is = sym (ap (λ (r : RequestValue). r.wait) same) ∙ is
-
-pub returns-then-wait-clause-concerns : goal.returns-then-wait-clause-concerns
-returns-then-wait-clause-concerns g c c' id s none =
-    emitted-due c.args.setup.now id c.args.request c' (asks c.request.view_is c.in-Emit.is) (waits_by c.request.view_is c.if-wait.true) none
+pub returns-in-Emit-clause-concerns : goal.returns-in-Emit-clause-concerns
+returns-in-Emit-clause-concerns g c c' id s =
+    emitted-idle c.args.setup.now id c.args.request c' (asks c.request.view_is c.in-Emit.is)
 
 pub returns-in-Status-clause-concerns : goal.returns-in-Status-clause-concerns
 returns-in-Status-clause-concerns g c c' id s none =

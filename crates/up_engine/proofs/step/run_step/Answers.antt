@@ -13,6 +13,15 @@ returns-in-Nobody-clause-after g c c' s rest =
     let quiet = rw c.in-Nobody.is at (c.in_ok-apply_effect.ensures.concerns c' s) in
     subst (g.B.Book.stands c.apply_effect.new.book Stepping config) (after-quiet config c.args.input c' (quiet rest.rested)) (c.in_ok-apply_effect.ensures.after c' s)
 
+pub returns-in_ok-reply_last-in-Client-clause-after : goal.returns-in_ok-reply_last-in-Client-clause-after
+returns-in_ok-reply_last-in-Client-clause-after g c c' s rest =
+    let config = c.args.setup.now in
+    let d = effect config c.args.input c' ++ c' in
+    let idle = (rw c.in-Client.is at (c.in_ok-apply_effect.ensures.concerns c' s)) rest.rested in
+    let same : answering_last (settle_all config.jobs d) ++ settle_all config.jobs d ≡ answering_last d ++ d = ap (λ f. answering_last f ++ f) idle.still in
+    subst (g.B.Book.stands c.reply_last.new.self Stepping config) (sym same ∙ after-other config c.args.input c' c.names_differ.ensures idle.unasked)
+    (c.in_ok-reply_last-in-Client.ensures.after config d (c.in_ok-apply_effect.ensures.after c' s))
+
 pub returns-in_ok-settle_alone-in-Instance-clause-after : goal.returns-in_ok-settle_alone-in-Instance-clause-after
 returns-in_ok-settle_alone-in-Instance-clause-after g c c' s rest =
     let config = c.args.setup.now in
@@ -39,6 +48,9 @@ returns-in_ok-settle_jobs-in-Anybody-clause-after g c c' s rest =
 
 pub returns-in-Nobody-clause-free : goal.returns-in-Nobody-clause-free
 returns-in-Nobody-clause-free g c c' s free = (refl, c.in_ok-apply_effect.ensures.after c' s)
+
+pub returns-in_ok-reply_last-in-Client-clause-free : goal.returns-in_ok-reply_last-in-Client-clause-free
+returns-in_ok-reply_last-in-Client-clause-free g c c' s free = absurd (rw c.in-Client.is at (c.in_ok-apply_effect.ensures.free c' s free))
 
 pub returns-in_ok-settle_alone-in-Instance-clause-free : goal.returns-in_ok-settle_alone-in-Instance-clause-free
 returns-in_ok-settle_alone-in-Instance-clause-free g c c' s free = absurd (rw c.in-Instance.is at (c.in_ok-apply_effect.ensures.free c' s free))
