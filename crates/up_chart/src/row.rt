@@ -70,10 +70,7 @@ pub(crate) fn new_row(place: u64, time: u64) -> Row
 pub(crate) fn is_up(state: State) -> bool
     ensures { result ≡ is_up state }
 {
-    matches!(
-        state,
-        State::Spawned | State::PostStart | State::Running
-    )
+    matches!(state, State::Spawned | State::PostStart | State::Running)
 }
 
 fn start_began_after(state: State, time: u64, start_began: Option<u64>) -> Option<u64>

@@ -79,10 +79,7 @@ fn judge_other(process: Process, how: How) -> Verdict
 fn is_judged_in(state: State) -> bool
     ensures { result ≡ model.is_judged_in state }
 {
-    matches!(
-        state,
-        State::PostStart | State::Running | State::PreStop
-    )
+    matches!(state, State::PostStart | State::Running | State::PreStop)
 }
 
 // Whether the end of main counts.
