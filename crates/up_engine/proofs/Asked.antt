@@ -297,7 +297,7 @@ acts-concerns places concern config id request c acts = by_concern concern acts
     by_concern on.Client acts = λ none. subst (IsIdle config) (sym whole) (acts none (asked-offers config id request c))
     by_concern (on.Instance key) acts = λ none. subst (IsAlone key config) (sym whole) (acts none (asked-offers config id request c))
     by_concern (on.Event key) acts = absurd acts
-    by_concern on.Anybody acts = ap offering whole ∙ asked-offers config id request c
+    by_concern on.Anybody acts = absurd acts
 
 -- an instance that is found by its names alone may move, if all others stay; and if none is found, none may
 pub called-acts : (concern : Concern) (config : Configuration) (who : Who) (c d : Chronicle) → AreDistinct config.jobs → IsCalled concern config who d

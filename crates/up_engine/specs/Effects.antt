@@ -45,13 +45,13 @@ Concerns places (Event key) config given c = (e : ℕ) × (effect config given c
     × (places (Handled e ∷ Given Turn ∷ c) key ≡ Some e)
 Concerns places Anybody config given c = offering (effect config given c ++ c) ≡ None
 
--- whom the entries after a request concern, if nothing was due before it: nobody, its client, an instance, or whoever may move
+-- whom the entries after a request concern, if nothing was due before it: nobody, its client, or an instance
 abbrev pub ActsOn : Concern → Configuration → (before after : Chronicle) → Type 0
 ActsOn Nobody config c d = due config c ≡ [] → due config d ≡ []
 ActsOn Client config c d = due config c ≡ [] → offering d ≡ None → IsIdle config d
 ActsOn (Instance' key) config c d = due config c ≡ [] → offering d ≡ None → IsAlone key config d
 ActsOn (Event key) config c d = ⊥
-ActsOn Anybody config c d = Unit {0}
+ActsOn Anybody config c d = ⊥
 
 -- an instance by its names, if it is there; and else the client alone
 abbrev pub IsCalled : Concern → Configuration → Who → Chronicle → Type 0
