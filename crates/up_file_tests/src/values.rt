@@ -76,26 +76,45 @@ fn is_wanted(tests: &[Test], job: &str) -> bool {
     }
 }
 
+fn result(alloc: Global) -> Result<Test, AllocError> {
+    let key = Text::from_str(alloc, "RESULT")?;
+    let value = Text::from_str(alloc, "ok")?;
+    Ok(Test::Same(key, value))
+}
+
+// `started RESULT=ok`
+fn result_alone(alloc: Global) -> Result<Items<Test>, AllocError> {
+    let mut tests = Vec::new(alloc);
+    tests.push(result(alloc)?)?;
+    Ok(Items::new(tests))
+}
+
 // `started RESULT=ok JOB=a b`
 fn tests(alloc: Global) -> Result<Items<Test>, AllocError> {
-    let result = Text::from_str(alloc, "RESULT")?;
-    let ok = Text::from_str(alloc, "ok")?;
     let key = Text::from_str(alloc, "JOB")?;
     let a = Text::from_str(alloc, "a")?;
     let b = Text::from_str(alloc, "b")?;
     let mut tests = Vec::new(alloc);
-    tests.push(Test::Same(result, ok))?;
+    tests.push(result(alloc)?)?;
     tests.push(Test::Same(key, a))?;
     tests.push(Test::Place(b))?;
     Ok(Items::new(tests))
 }
 
+fn after_two(tests: &[Test]) -> &[Test] {
+    match tests {
+        [_, _, rest @ ..] => rest,
+        _ => &[],
+    }
+}
+
 #[test]
 fn tests_want_the_job_that_comes_first(rt: HostRuntime) -> Result<(), Fail> {
+    let alone = result_alone(rt.alloc())?;
+    assert!(rt; wanted_job(alone.as_slice()).is_none());
     let tests = tests(rt.alloc())?;
     assert!(rt; is_wanted(tests.as_slice(), "a"));
-    assert!(rt; is_wanted(&tests.as_slice()[2..], "b"));
-    assert!(rt; wanted_job(&tests.as_slice()[..1]).is_none());
+    assert!(rt; is_wanted(after_two(tests.as_slice()), "b"));
     Ok(())
 }
 
