@@ -173,7 +173,7 @@ fn refuse_word<R: Eprint>(rt: &R, word: &str) -> ExitStatus
     ExitStatus::Failed
 }
 
-fn act<R: Net + Print + Eprint>(
+fn send_request<R: Net + Print + Eprint>(
     rt: &R,
     alloc: Global,
     socket: &str,
@@ -215,10 +215,10 @@ pub fn run<R: Net + Print + Eprint + Env + AllocGlobal>(rt: &R, words: &[String]
         Err(error) => return print_refusal(rt, &error),
     };
     if let Some(socket) = matches.get_str("socket") {
-        return act(rt, rt.alloc(), socket, &matches);
+        return send_request(rt, rt.alloc(), socket, &matches);
     }
     match env::var(rt, "INITCTL_SOCKET") {
-        Ok(socket) => act(rt, rt.alloc(), socket.as_str(), &matches),
-        Err(_) => act(rt, rt.alloc(), DEFAULT_SOCKET, &matches),
+        Ok(socket) => send_request(rt, rt.alloc(), socket.as_str(), &matches),
+        Err(_) => send_request(rt, rt.alloc(), DEFAULT_SOCKET, &matches),
     }
 }

@@ -154,7 +154,7 @@ impl<'a, W: Read + Write + OpenFile + Drop> Reporter<'a, W> {
     }
 
     // Writes lines to the file and to standard output; out of memory, both get no more.
-    fn tell_lines<R: Print + Eprint>(&mut self, rt: &R, lines: Result<Vec<u8>, AllocError>) {
+    fn report_lines<R: Print + Eprint>(&mut self, rt: &R, lines: Result<Vec<u8>, AllocError>) {
         match lines {
             Ok(text) => {
                 self.write_told(rt, text.as_slice());
@@ -183,12 +183,12 @@ impl<'a, W: Read + Write + OpenFile + Drop> Reporter<'a, W> {
     ) {
         self.note(rt, alloc, round.fed.as_slice(), idle);
         if self.has_reader() {
-            self.tell_lines(rt, gave_lines(alloc, round.gave.as_slice()));
+            self.report_lines(rt, gave_lines(alloc, round.gave.as_slice()));
         }
     }
 
     /// Reports which calls of the host and of the door failed in a round, and how many of the source, as comments.
-    pub(crate) fn tell_faults<R: Print + Eprint>(
+    pub(crate) fn report_faults<R: Print + Eprint>(
         &mut self,
         rt: &R,
         alloc: Global,
@@ -197,7 +197,7 @@ impl<'a, W: Read + Write + OpenFile + Drop> Reporter<'a, W> {
         source: u64,
     ) {
         if self.has_reader() && (host.are_some() || !door.is_empty() || source > 0) {
-            self.tell_lines(rt, fault_lines(alloc, host, door, source));
+            self.report_lines(rt, fault_lines(alloc, host, door, source));
         }
     }
 
@@ -213,7 +213,7 @@ impl<'a, W: Read + Write + OpenFile + Drop> Reporter<'a, W> {
     ) {
         self.write_record(rt);
         if self.has_reader() {
-            self.tell_lines(rt, fault_count(alloc, host, door, source));
+            self.report_lines(rt, fault_count(alloc, host, door, source));
         }
         if let Some(outlet) = &self.verbose {
             say_lost(rt, outlet.unread());

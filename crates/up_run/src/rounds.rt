@@ -75,7 +75,7 @@ where
     let counted = host.faults().saturating_sub(faults);
     let faults = host_faults(round.fed.as_slice(), host.happened(), counted);
     let unread = source.faults().saturating_sub(unread);
-    reporter.tell_faults(rt, rt.alloc(), &faults, door.failed(), unread);
+    reporter.report_faults(rt, rt.alloc(), &faults, door.failed(), unread);
     if !going.quiet && !idle {
         say_failures(rt, &round, host.refusals());
     }

@@ -53,7 +53,7 @@ fn load_walked(alloc: Global, folder: &Folder) -> Result<Loaded, AllocError>
 }
 
 // The output for a path that can't be used.
-fn lost(alloc: Global, path: &str) -> Result<Loaded, AllocError>
+fn refused_path(alloc: Global, path: &str) -> Result<Loaded, AllocError>
     ensures { IfOk result (λ loaded. loaded ≡ Loaded.Refused (prints (unusable path.now) Unusable)) }
 {
     let made = cannot_use(alloc, path)?;
@@ -68,7 +68,7 @@ fn load_dir<R: Files + Eprint + AllocGlobal + Clone + Drop>(
 {
     match walk(rt, dir) {
         Ok(folder) => load_walked(rt.alloc(), &folder),
-        Err(WalkError::Unusable(path)) => lost(rt.alloc(), path.as_str()),
+        Err(WalkError::Unusable(path)) => refused_path(rt.alloc(), path.as_str()),
         Err(WalkError::Memory) => Err(AllocError),
     }
 }
@@ -116,7 +116,7 @@ fn load_other_dir<R: Files + Eprint + AllocGlobal + Clone + Drop>(
 {
     match walk(rt, dir) {
         Ok(folder) => load_named(rt.alloc(), dir, &folder),
-        Err(WalkError::Unusable(path)) => lost(rt.alloc(), path.as_str()),
+        Err(WalkError::Unusable(path)) => refused_path(rt.alloc(), path.as_str()),
         Err(WalkError::Memory) => Err(AllocError),
     }
 }
@@ -144,7 +144,7 @@ fn load_image<R: Files + Eprint + AllocGlobal>(rt: &R, image: &str) -> Result<Lo
 {
     match read_bytes(rt, image)? {
         Some(bytes) => load_bytes(rt.alloc(), bytes.as_slice()),
-        None => lost(rt.alloc(), image),
+        None => refused_path(rt.alloc(), image),
     }
 }
 
