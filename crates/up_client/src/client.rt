@@ -18,7 +18,7 @@ use std::os::unix::net::UnixStream;
 use std::rt::Env;
 use std::{env, io};
 use up_model::{Answer, ExitStatus};
-use up_text::{Env as Bindings, TextFault};
+use up_text::{Env as Variables, TextFault};
 use up_wire::{DEFAULT_SOCKET, WireFault, command_line, request_of, write_request};
 
 const PROFILE: &str = "initctl (upstart profile 1)";
@@ -145,7 +145,7 @@ fn is_binding(alloc: Global, word: &str) -> bool {
     match word.split_once('=') {
         Some((key, value)) => {
             !matches!(
-                Bindings::new(alloc).set(key, value),
+                Variables::new(alloc).set(key, value),
                 Err(TextFault::BadName)
             )
         }
