@@ -134,15 +134,16 @@ fn marks_of_the_shell(rt: HostRuntime) {
 }
 
 #[test]
-fn ends_are_the_same_by_kind_and_number(rt: HostRuntime) {
+fn ends_are_the_same_by_kind_and_number(rt: HostRuntime) -> Result<(), Fail> {
     let (Some(hup), Some(kill)) = (Signal::read("HUP"), Signal::read("KILL")) else {
-        return;
+        return Err(Fail::new(format_args!("HUP or KILL isn't read as a signal")));
     };
     assert!(rt; Exit::Status(1).is(Exit::Status(1)));
     assert!(rt; !Exit::Status(1).is(Exit::Status(2)));
     assert!(rt; Exit::Signal(hup).is(Exit::Signal(hup)));
     assert!(rt; !Exit::Signal(hup).is(Exit::Signal(kill)));
     assert!(rt; !Exit::Status(1).is(Exit::Signal(hup)));
+    Ok(())
 }
 
 const STATES: &[State] = &[
