@@ -2,7 +2,7 @@
 use Rattle.std.proofs.Common.{◌≡◌, ℕ, ◌&&◌, false, true, List, [], ◌∷◌, ◌++◌, Option, None, Some, option_map, refl, ◌∙◌, ap, append_assoc}
 use Rattle.up_conf.specs.declared.job.JobDef.{JobDef}
 use Rattle.up_stanza.specs.declared.process.Process.TheVariants.{Main}
-use Rattle.up_model.specs.declared.life.Entry as table
+use Rattle.up_model.specs.declared.life.EntryActions as table
 use Rattle.up_model.specs.declared.state.State.{State}
 use Rattle.up_model.specs.declared.who.Who.{Who}
 use Rattle.up_model.specs.Chronicle.{Chronicle, Entry, Entered, Signalled}
@@ -57,7 +57,7 @@ pub some_same : {X : Type 0} {x y : X} → Some x ≡ Some y → x ≡ y
 some_same e = cc
 
 -- the entries with which an instance enters a state, one kind before another
-pub enter_shape : (job : JobDef) (who : Who) (p : ℕ) (to : State) (entry : table.Entry) (c : Chronicle)
+pub enter_shape : (job : JobDef) (who : Who) (p : ℕ) (to : State) (entry : table.EntryActions) (c : Chronicle)
     → enter_whole job who p to entry c ++ c
     ≡ (let x : List Entry = ordering job p entry.orders ++ Entered p to ∷ c in
     let y : List Entry = entries_if (entry.kills && lives p Main c) (Signalled p job.kill_signal false ∷ []) ++ (emitting job who p to entry.emits x ++ x) in

@@ -2,7 +2,7 @@
 use Rattle.std.proofs.Common.{◌≡◌, ◌&&◌, false, true, [], ◌∷◌, ◌++◌}
 use Rattle.up_conf.specs.declared.job.JobDef.{JobDef}
 use Rattle.up_cascade.proofs.Entries.{filled_five}
-use Rattle.up_model.specs.declared.life.Entry as life
+use Rattle.up_model.specs.declared.life.EntryActions as life
 use Rattle.up_model.specs.declared.state.State.{State}
 use Rattle.up_model.specs.declared.who.Who.{Who}
 use Rattle.up_stanza.specs.declared.process.Process.TheVariants.{Main}
@@ -26,5 +26,5 @@ filled_move job instance c =
     to : State
     to = next_of job instance.place c
 
-    table : life.Entry
+    table : life.EntryActions
     table = entering to (state_of instance.place c) job.task

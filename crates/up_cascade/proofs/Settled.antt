@@ -4,7 +4,7 @@ use Rattle.std.specs.List.{AllByRecursion}
 use Rattle.up_conf.specs.declared.job.JobDef.{JobDef}
 use Rattle.up_stanza.specs.declared.process.Process.{Process}
 use Rattle.up_stanza.specs.declared.process.Process.TheVariants.{Main}
-use Rattle.up_model.specs.declared.life.Entry as table
+use Rattle.up_model.specs.declared.life.EntryActions as table
 use Rattle.up_model.specs.declared.life.JobEvent.{JobEvent}
 use Rattle.up_model.specs.declared.state.Goal.{Goal}
 use Rattle.up_model.specs.declared.state.Goal.TheVariants.{Start, Stop}
@@ -53,7 +53,7 @@ ordering-still : (job : JobDef) (p : ℕ) (its : Option Process) → AllByRecurs
 ordering-still job p None = tt
 ordering-still job p (Some its) = all-if StandsStill (has_process job its) (Ordered p its ∷ []) (tt, tt)
 
-pub enter-still : (job : JobDef) (who : Who) (p : ℕ) (to : State) (entry : table.Entry) (c : Chronicle) → StandsStill (Entered p to) → AllByRecursion StandsStill (enter_whole job who p to entry c)
+pub enter-still : (job : JobDef) (who : Who) (p : ℕ) (to : State) (entry : table.EntryActions) (c : Chronicle) → StandsStill (Entered p to) → AllByRecursion StandsStill (enter_whole job who p to entry c)
 enter-still job who p to entry c is =
     all-append StandsStill (entries_if entry.releases (releasing p false (enter job who p to entry c ++ c))) (enter job who p to entry c)
     (all-if StandsStill entry.releases (releasing p false (enter job who p to entry c ++ c)) (releasing-all StandsStill (λ request answer. tt) p false tt (enter job who p to entry c ++ c)))

@@ -4,7 +4,7 @@ use Rattle.std.specs.List.{AllByRecursion}
 use Rattle.up_conf.specs.declared.job.JobDef.{JobDef}
 use Rattle.up_stanza.specs.declared.process.Process.{Process}
 use Rattle.up_stanza.specs.declared.process.Process.TheVariants as process
-use Rattle.up_model.specs.declared.life.Entry as table
+use Rattle.up_model.specs.declared.life.EntryActions as table
 use Rattle.up_model.specs.declared.life.JobEvent.{JobEvent}
 use Rattle.up_model.specs.declared.state.Goal.TheVariants.{Start}
 use Rattle.up_model.specs.declared.state.State.{State}
@@ -262,7 +262,7 @@ ordering-about : (job : JobDef) (p : ℕ) (its : Option Process) → AllByRecurs
 ordering-about job p None = tt
 ordering-about job p (Some its) = all-if (About p) (has_process job its) (Ordered p its ∷ []) (refl, tt)
 
-pub enter-about : (job : JobDef) (who : Who) (p : ℕ) (to : State) (entry : table.Entry) (c : Chronicle) → AllByRecursion (About p) (enter_whole job who p to entry c)
+pub enter-about : (job : JobDef) (who : Who) (p : ℕ) (to : State) (entry : table.EntryActions) (c : Chronicle) → AllByRecursion (About p) (enter_whole job who p to entry c)
 enter-about job who p to entry c =
     all-append (About p) (entries_if entry.releases (releasing p false (enter job who p to entry c ++ c))) (enter job who p to entry c)
     (all-if (About p) entry.releases (releasing p false (enter job who p to entry c ++ c)) (releasing-all (About p) (λ request answer. tt) p false tt (enter job who p to entry c ++ c)))

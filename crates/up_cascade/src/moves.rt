@@ -22,7 +22,7 @@ use std::alloc::{AllocError, Global};
 use up_book::Book;
 use up_image::JobFile;
 use up_job::{InstanceKey, entering, next_state};
-use up_model::{Entry, Goal, JobDef, JobEvent, Process, State};
+use up_model::{EntryActions, Goal, JobDef, JobEvent, Process, State};
 
 // Whether the order of a process was answered; true if the job doesn't have it.
 fn is_answered<B: Book>(book: &B, job: &JobDef, key: InstanceKey, process: Process) -> bool
@@ -204,7 +204,7 @@ fn enter_with<B: Book>(
     job: &JobDef,
     key: InstanceKey,
     to: State,
-    table: Entry,
+    table: EntryActions,
 ) -> Result<(), AllocError>
     ensures after { OnOk result (OfWhole (B.stands book.old Stepping) setup.now key (λ c its.
         its.file ≡ job.now → is_waiting to ≡ false → B.stands book.new Stepping setup.now
@@ -234,7 +234,7 @@ fn enter_other<B: Book>(
     job: &JobDef,
     key: InstanceKey,
     to: State,
-    table: Entry,
+    table: EntryActions,
 ) -> Result<(), AllocError>
     ensures after { OnOk result (OfWhole (B.stands book.old Stepping) setup.now key (λ c its. its.file ≡ job.now
         → is_waiting to ≡ false → B.stands book.new Stepping setup.now (model.enter_whole job.now (model.who_of

@@ -19,7 +19,7 @@ pub fn overridden_name(path: &str) -> Option<&str>
 }
 
 /// The path of a job's own file, `NAME.conf`.
-pub fn conf_path(alloc: Global, name: &str) -> Result<String, AllocError>
+pub(crate) fn conf_path(alloc: Global, name: &str) -> Result<String, AllocError>
     ensures { IfOk result (λ path. string_bytes path ≡ name.now ++ codes ".conf") }
 {
     let mut path = String::from_str(alloc, name)?;

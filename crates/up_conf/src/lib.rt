@@ -18,7 +18,7 @@ mod outline;
 mod parsed;
 pub mod report;
 
-pub use ending::{conf_path, job_name, overridden_name};
+pub use ending::{job_name, overridden_name};
 pub use files::read_folder;
 pub use folder::{File, Folder};
 pub use folder_index::FolderIndex;

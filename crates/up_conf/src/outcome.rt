@@ -49,7 +49,7 @@ fn override_bytes<'a>(
 }
 
 // A file's fault, as it is reported.
-fn tell(path: &Text, fault: ConfFault) -> Result<Fault, AllocError>
+fn fault_in(path: &Text, fault: ConfFault) -> Result<Fault, AllocError>
     ensures { IfOk result (λ told. IsFault (Some (record { path = path.now; line = fault.line }))
         (Some told)) }
 {
@@ -160,7 +160,7 @@ fn read_job<'a>(
             line: 1,
             code: FaultCode::BadName,
         };
-        return Ok(Err(tell(&file.path, fault)?));
+        return Ok(Err(fault_in(&file.path, fault)?));
     };
     match read_bytes(alloc, file.bytes.as_slice())? {
         Ok(stanzas) => {
@@ -168,7 +168,7 @@ fn read_job<'a>(
             drop(stanzas);
             Ok(Ok(job?))
         }
-        Err(fault) => Ok(Err(tell(&file.path, fault)?)),
+        Err(fault) => Ok(Err(fault_in(&file.path, fault)?)),
     }
 }
 
@@ -186,7 +186,7 @@ fn override_fault(
 {
     match read {
         Ok(_) => Ok(None),
-        Err(fault) => Ok(Some(tell(path, *fault)?)),
+        Err(fault) => Ok(Some(fault_in(path, *fault)?)),
     }
 }
 

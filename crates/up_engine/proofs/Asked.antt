@@ -19,6 +19,7 @@ use Rattle.up_cascade.proofs.Moving.{StayIn, Stay}
 use Rattle.up_cascade.proofs.Opening.{About}
 use Rattle.up_cascade.proofs.Settled.{still-instances}
 use Rattle.up_job.specs.declared.instance_key.InstanceKey.{InstanceKey}
+use Rattle.up_model.proofs.NameLaws.{new-with}
 use Rattle.up_model.proofs.Places.{bytes_refl}
 use Rattle.up_model.proofs.ReplyLaws.{releasing-all}
 use Rattle.up_model.proofs.Sparing.{same-append}
@@ -30,7 +31,7 @@ use Rattle.up_model.specs.Configuration.{Configuration}
 use Rattle.up_model.specs.Due.{due, effect}
 use Rattle.up_model.specs.Events.{with_instance as with_variables}
 use Rattle.up_model.specs.Files.{own_file}
-use Rattle.up_model.specs.Instances.{Instance, is_before, with_instance, instances_of, place_named, instance_named}
+use Rattle.up_model.specs.Instances.{Instance, instances_of, place_named, instance_named}
 use Rattle.up_model.specs.Life.{Wait, ForStart, ForEvent, ForAnswer, ForProcess, ForChange, ForMain, wait_in}
 use Rattle.up_model.specs.Moves.{is_over}
 use Rattle.up_model.specs.Offers.{offering, max_instances}
@@ -89,17 +90,6 @@ own-stays jobs who j es c own there stays i found =
     subst (λ p. Stay p jobs (es ++ c)) same (stay-entries j jobs es c (own-about j es own) (stays j))
 
 -- a new instance is found by its name
-new-with : (y : Instance) (ys : List Instance) → place_named y.name ys ≡ None → place_named y.name (with_instance y ys) ≡ Some y.place
-new-with y [] none = rw (bytes_refl y.name) refl
-new-with y (z ∷ zs) none = by_case (is_before z y) (bytes_eq z.name y.name) refl none (new-with y zs)
-  where
-    by_case : (b its : Bool) → bytes_eq z.name y.name ≡ its → (if its then Some z.place else place_named y.name zs) ≡ None
-        → (place_named y.name zs ≡ None → place_named y.name (with_instance y zs) ≡ Some y.place)
-        → place_named y.name (if b then z ∷ with_instance y zs else y ∷ z ∷ zs) ≡ Some y.place
-    by_case true true same none ih = cc
-    by_case true false differs none ih = rw differs (ih none)
-    by_case false its e none ih = rw (bytes_refl y.name) refl
-
 made-there : (job : JobDef) (who : Who) (c : Chronicle) → job.name ≡ who.job → instance_named who c ≡ None → instance_named who (Made job who.instance ∷ c) ≡ Some (length c)
 made-there job who c same none =
     let its : bytes_eq job.name who.job ≡ true = subst (λ n. bytes_eq n who.job ≡ true) (sym same) (bytes_refl who.job) in

@@ -1,5 +1,6 @@
 pub mod Lists
 pub mod Linking
 pub mod Steps
-pub mod Turns
+pub mod Search
+pub mod NextTurn
 pub mod CallerLemmas

@@ -46,7 +46,7 @@ pub has_key : (nodes : Slab Node) (oldest newest : Option ℕ) (lives : List Liv
 has_key nodes oldest newest lives id r h =
     some_mapped (get nodes id.key) (subst IsSome (sym (node_of nodes oldest newest lives id r)) h)
 
-some_of : (live : Option LiveEvent) (P : LiveEvent → Type 0) → IsSomeAnd live P → IsSome live
+pub some_of : (live : Option LiveEvent) (P : LiveEvent → Type 0) → IsSomeAnd live P → IsSome live
 some_of None P h = absurd h
 some_of (Some live) P h = refl
 

@@ -2,3 +2,5 @@
 pub mod LiveEvents
 -- How the live events are linked in memory.
 pub mod Links
+-- Which event a turn is for.
+pub mod Turns

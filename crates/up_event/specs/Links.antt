@@ -82,3 +82,17 @@ pub record AreLinked (nodes : Slab Node) (oldest newest : Option ℕ) (lives : L
   pub from : oldest ≡ first lives
   pub to : newest ≡ last_or None lives
   pub distinct : AreDistinct lives
+
+-- the events from a key on
+abbrev pub from_key : ℕ → List LiveEvent → List LiveEvent
+from_key key [] = []
+from_key key (live ∷ lives) = if live.id.key == key then live ∷ lives else from_key key lives
+
+abbrev pub from : Option ℕ → List LiveEvent → List LiveEvent
+from None lives = []
+from (Some key) lives = from_key key lives
+
+-- the events after the one at a key
+abbrev pub after : ℕ → List LiveEvent → List LiveEvent
+after key [] = []
+after key (live ∷ lives) = if live.id.key == key then lives else after key lives

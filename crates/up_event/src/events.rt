@@ -1,11 +1,11 @@
-//! The queue of live events.
+//! The queue of live events, with the turn that is due.
 ghost use Rattle.std.specs.Prelude.{◌≡◌, ◌++◌, ◌∷◌, [], length, option_map, IfOk, IfSome, IsSomeAnd, OnErr, Some, None};
 ghost use Rattle.std.specs.Option.{option_copied};
 ghost use Rattle.up_event.specs.LiveEvents.{named, AreDistinct, new_live, with_change, without, as_handled, with_hold, without_hold, outcome_of, next_turn, IsLive, IsHeld, MayBeHeld, MayFinish};
+ghost use Rattle.up_event.specs.Turns.{has_turn, is_turn_of};
 
 use crate::live::{self, Finished, LiveEvent, TurnKind};
-use crate::nodes::{self, Node};
-use slab::Slab;
+use crate::queue::Queue;
 use std::alloc::{AllocError, Global};
 use std::marker::Model;
 use up_model::{Event, EventId};
@@ -13,23 +13,39 @@ use up_model::{Event, EventId};
 /// The live events. Contracts see them as a list, oldest first.
 #[derive(Drop)]
 pub struct Events {
-    nodes: Slab<Node>,
-    oldest: Option<usize>,
-    newest: Option<usize>,
+    queue: Queue,
+    // The turn that is due, so that nobody searches for it past events that are held.
+    next: Option<(EventId, TurnKind)>,
 }
 
 impl Model for Events {
-    ghost use Rattle.std.specs.Prelude.{List};
-    ghost use Rattle.slab.specs.Slab.{slab_len};
+    ghost use Rattle.std.specs.Prelude.{◌≡◌, List};
     ghost use Rattle.up_event.specs.declared.live.LiveEvent.{LiveEvent};
+    ghost use Rattle.up_event.specs.LiveEvents.{next_turn, AreDistinct};
 
     ghost Value = { List LiveEvent };
 
-    ghost use Rattle.up_event.specs.Links.{AreLinked, walk};
+    ghost view = { λ e. e.queue };
 
-    ghost view = { λ e. walk e.nodes (slab_len e.nodes) e.oldest };
+    ghost invariant = { λ e. (e.next ≡ next_turn e.queue) × AreDistinct e.queue };
+}
 
-    ghost invariant = { λ e. AreLinked e.nodes e.oldest e.newest (walk e.nodes (slab_len e.nodes) e.oldest) };
+fn is_turn_of(turn: Option<(EventId, TurnKind)>, id: EventId) -> bool
+    ensures { result ≡ is_turn_of id turn }
+{
+    match turn {
+        Some((other, _)) => other.key == id.key,
+        None => false,
+    }
+}
+
+fn has_turn(queue: &Queue, id: EventId) -> bool
+    ensures { result ≡ has_turn (named id queue.now) }
+{
+    match queue.find(id) {
+        Some(live) => live::turn_of(live).is_some(),
+        None => false,
+    }
 }
 
 impl Events {
@@ -37,9 +53,8 @@ impl Events {
         ensures { result ≡ [] }
     {
         Events {
-            nodes: Slab::new(alloc),
-            oldest: None,
-            newest: None,
+            queue: Queue::new(alloc),
+            next: None,
         }
     }
 
@@ -47,23 +62,20 @@ impl Events {
         ensures count { result ≡ length self.now }
         ensures distinct { AreDistinct self.now }
     {
-        self.nodes.len()
+        self.queue.len()
     }
 
     pub fn get(&self, id: EventId) -> &Event
         requires { IsLive id self.now }
         ensures { IsSomeAnd (named id self.now) (λ live. live.event ≡ result.now) }
     {
-        &self.nodes[id.key].live.event
+        self.queue.get(id)
     }
 
     pub fn find(&self, id: EventId) -> Option<&LiveEvent>
         ensures { option_copied result ≡ named id self.now }
     {
-        match self.nodes.get(id.key) {
-            Some(node) => Some(&node.live),
-            None => None,
-        }
+        self.queue.find(id)
     }
 
     /// Adds an event as the newest, with the client that waits for it. Its id may be that of an event that has finished.
@@ -74,9 +86,8 @@ impl Events {
         ensures refused { OnErr result (self.new ≡ self.old) }
         ensures distinct { AreDistinct self.new }
     {
-        let id = nodes::append(&mut self.nodes, self.newest, event, waiter)?;
-        self.oldest = self.oldest.or(Some(id.key));
-        self.newest = Some(id.key);
+        let id = self.queue.push(event, waiter)?;
+        self.next = self.next.or(Some((id, TurnKind::Handle)));
         Ok(id)
     }
 
@@ -87,15 +98,7 @@ impl Events {
         ensures finishes { IfSome result (λ turn. turn.1 ≡ TurnKind.Finish → MayFinish turn.0 self.now) }
         ensures distinct { AreDistinct self.now }
     {
-        let mut at = self.oldest;
-        while let Some(key) = at {
-            let node = &self.nodes[key];
-            if let Some(turn) = live::turn_of(&node.live) {
-                return Some(turn);
-            }
-            at = node.newer;
-        }
-        None
+        self.next
     }
 
     /// Notes that a turn took an event up.
@@ -104,7 +107,10 @@ impl Events {
         ensures changed { self.new ≡ with_change id as_handled self.old }
         ensures distinct { AreDistinct self.new }
     {
-        nodes::handle(&mut self.nodes, id.key);
+        self.queue.handled(id);
+        if is_turn_of(self.next, id) {
+            self.next = self.queue.turn_since(id);
+        }
     }
 
     /// Holds an event once more: until all its holds are released, it can't finish.
@@ -113,7 +119,10 @@ impl Events {
         ensures changed { self.new ≡ with_change id with_hold self.old }
         ensures distinct { AreDistinct self.new }
     {
-        nodes::hold(&mut self.nodes, id.key);
+        self.queue.hold(id);
+        if is_turn_of(self.next, id) {
+            self.next = self.queue.turn_since(id);
+        }
     }
 
     /// Releases one hold of an event.
@@ -122,7 +131,10 @@ impl Events {
         ensures changed { self.new ≡ with_change id (without_hold failed) self.old }
         ensures distinct { AreDistinct self.new }
     {
-        nodes::release(&mut self.nodes, id.key, failed);
+        self.queue.release(id, failed);
+        if has_turn(&self.queue, id) {
+            self.next = self.queue.first_turn();
+        }
     }
 
     pub fn finish(&mut self, id: EventId) -> Finished
@@ -131,9 +143,9 @@ impl Events {
         ensures gone { self.new ≡ without id self.old }
         ensures distinct { AreDistinct self.new }
     {
-        let node = nodes::take_out(&mut self.nodes, id.key);
-        self.oldest = nodes::end_without(node.older, self.oldest, node.newer);
-        self.newest = nodes::end_without(node.newer, self.newest, node.older);
-        live::outcome_of(node.live)
+        if is_turn_of(self.next, id) {
+            self.next = self.queue.turn_after(id);
+        }
+        self.queue.finish(id)
     }
 }

@@ -4,6 +4,7 @@
 mod events;
 mod live;
 mod nodes;
+mod queue;
 
 pub use events::Events;
 pub use live::{Finished, LiveEvent, TurnKind};

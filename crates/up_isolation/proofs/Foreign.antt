@@ -25,7 +25,7 @@ use Rattle.up_expr.specs.declared.expr.Leaf.{Leaf}
 use Rattle.up_expr.specs.Matching.{matches}
 use Rattle.up_expr.specs.Trees.{Tree, One, Both, Either}
 use Rattle.up_expr.specs.Truth as truth
-use Rattle.up_model.specs.declared.life.Entry as table
+use Rattle.up_model.specs.declared.life.EntryActions as table
 use Rattle.up_model.specs.declared.life.JobEvent.{JobEvent}
 use Rattle.up_model.specs.declared.state.Goal.TheVariants.{Start}
 use Rattle.up_model.specs.Environments.{env_of_job, instance_name}
@@ -156,7 +156,7 @@ strange-emitting : (job : Bytes) (def : JobDef) (who : Who) (i : ℕ) (to : Stat
 strange-emitting job def who i to None c other = tt
 strange-emitting job def who i to (Some kind) c other = (other, tt)
 
-strange-enter : (job : Bytes) (def : JobDef) (who : Who) (i : ℕ) (to : State) (entry : table.Entry)
+strange-enter : (job : Bytes) (def : JobDef) (who : Who) (i : ℕ) (to : State) (entry : table.EntryActions)
     (c : Chronicle) → IsOther job i c → AreStrange job (enter def who i to entry c) c
 strange-enter job def who i to entry c other =
     strange-append job (entries_if (entry.kills && lives i Main c) (Signalled i def.kill_signal false ∷ []))
@@ -183,7 +183,7 @@ strange-move job config def x c fair other =
     to : State
     to = next_of def x.place c
 
-    entry : table.Entry
+    entry : table.EntryActions
     entry = entering to (state_of x.place c) def.task
 
     one : List Entry

@@ -43,7 +43,7 @@ use Rattle.up_isolation.proofs.Movers as movers
 use Rattle.up_isolation.proofs.Movers.{Moves, moves-first, move-some, or_else-first, or_else-second}
 use Rattle.up_isolation.proofs.Locals.{IsMoving, move-moving, moving-offering}
 use Rattle.std.proofs.Common.{nat_lt, ltb-true}
-use Rattle.up_model.specs.declared.life.Entry as table
+use Rattle.up_model.specs.declared.life.EntryActions as table
 use Rattle.up_model.specs.declared.life.JobEvent.{JobEvent}
 use Rattle.up_model.specs.Life.{entering}
 use Rattle.up_model.specs.Moves.{may_leave, move_in, has_process, who_of, emitting, ordering, enter}
@@ -180,7 +180,7 @@ wordless-ordering : (def : JobDef) (i : ℕ) (o : Option Process) → AllByRecur
 wordless-ordering def i None = tt
 wordless-ordering def i (Some its) = all-if IsWordless (has_process def its) (Ordered i its ∷ []) (tt, tt)
 
-wordless-enter : (def : JobDef) (who : Who) (i : ℕ) (to : State) (entry : table.Entry) (c : Chronicle)
+wordless-enter : (def : JobDef) (who : Who) (i : ℕ) (to : State) (entry : table.EntryActions) (c : Chronicle)
     → AllByRecursion IsWordless (enter def who i to entry c)
 wordless-enter def who i to entry c =
     all-append IsWordless
@@ -207,7 +207,7 @@ unsaid-move r def x c h =
     to : State
     to = next_of def x.place c
 
-    entry : table.Entry
+    entry : table.EntryActions
     entry = entering to (state_of x.place c) def.task
 
     one : List Entry

@@ -16,7 +16,7 @@ use Rattle.up_isolation.proofs.Twins.{Twins}
 use Rattle.up_isolation.proofs.Known.{IsKnown}
 use Rattle.up_isolation.proofs.Likes.{Twin, Like, Fair, only}
 use Rattle.std.proofs.Common.{append_assoc}
-use Rattle.up_model.specs.declared.life.Entry as table
+use Rattle.up_model.specs.declared.life.EntryActions as table
 use Rattle.up_model.specs.Life.{entering}
 use Rattle.up_model.specs.Moves.{who_of, emitting, ordering, enter, may_leave, next_of, move, move_of}
 use Rattle.up_model.specs.Moves.{move_in, move_first}
@@ -40,7 +40,7 @@ move-some def x c none = snoc-some (rel ++ (sig ++ (emit ++ ord))) (Entered x.pl
     to : State
     to = next_of def x.place c
 
-    entry : table.Entry
+    entry : table.EntryActions
     entry = entering to (state_of x.place c) def.task
 
     one : List Entry

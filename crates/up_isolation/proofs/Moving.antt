@@ -14,7 +14,7 @@ use Rattle.up_model.specs.Values.{Bytes}
 use Rattle.up_isolation.proofs.Lives.{Life, life}
 use Rattle.up_isolation.proofs.Pairs.{Pair, Carries, carries-none}
 use Rattle.std.proofs.Common.{not, ◌||◌}
-use Rattle.up_model.specs.declared.life.Entry as table
+use Rattle.up_model.specs.declared.life.EntryActions as table
 use Rattle.up_model.specs.declared.life.JobEvent.{JobEvent}
 use Rattle.up_model.specs.Events.{life_event, exporting}
 use Rattle.up_model.specs.Life.{Wait, ForStart, ForEvent, ForAnswer, ForProcess, ForChange, ForMain, wait_in}
@@ -92,7 +92,7 @@ pair_emitting job config def c d x y to (Some kind) pair =
 
 -- they enter a state, but for what they release
 pair_enter : (job : Bytes) (config : Configuration) (def : JobDef) (c d : Chronicle) (x y : Instance)
-    (to : State) (entry : table.Entry) → Pair job config c d x y
+    (to : State) (entry : table.EntryActions) → Pair job config c d x y
     → Carries job config c d (enter def (who_of def x) x.place to entry c ++ c)
     (enter def (who_of def y) y.place to entry d ++ d) x y
 pair_enter job config def c d x y to entry pair =
@@ -126,7 +126,7 @@ pair_enter job config def c d x y to entry pair =
         entries_if (entry.kills && lives y.place Main d) (Signalled y.place def.kill_signal false ∷ [])
 
 pair_enter_whole : (job : Bytes) (config : Configuration) (def : JobDef) (c d : Chronicle) (x y : Instance)
-    (to : State) (entry : table.Entry) → Pair job config c d x y
+    (to : State) (entry : table.EntryActions) → Pair job config c d x y
     → Carries job config c d (enter_whole def (who_of def x) x.place to entry c ++ c)
     (enter_whole def (who_of def y) y.place to entry d ++ d) x y
 pair_enter_whole job config def c d x y to entry pair =

@@ -1,5 +1,5 @@
 -- The alarm isn't after a moment at which main of an instance is to be killed.
-use Rattle.std.proofs.Common.{◌≡◌, ℕ, zero, suc, ◌<◌, ◌≤◌, nat_lt, Bool, true, false, List, [], ◌∷◌, length, map, take, get_or, Option, None, Some, Result, Ok, Err, OnOk, OnErr, if◌then◌else◌, refl, sym, subst, arith}
+use Rattle.std.proofs.Common.{◌≡◌, ℕ, zero, suc, ◌≤◌, nat_lt, Bool, true, false, List, [], ◌∷◌, map, Option, None, Some, if◌then◌else◌, refl, arith}
 use Rattle.up_conf.specs.Order.{is_below}
 use Rattle.up_conf.specs.declared.job.JobDef.{JobDef}
 use Rattle.up_model.specs.declared.event_id.EventId.{EventId}
@@ -55,13 +55,6 @@ from-with_at alarm at f keeps [] from = tt
 from-with_at alarm zero f keeps (x ∷ xs) from = (keeps x from.0, from.1)
 from-with_at alarm (suc at) f keeps (x ∷ xs) from = (from.0, from-with_at alarm at f keeps xs from.1)
 
--- and one job
-pub all-with_at : (alarm place : ℕ) (f : JobInstances → JobInstances) → ((job : JobInstances) → AreFrom alarm job.instances → AreFrom alarm (f job).instances) → (jobs : List JobInstances)
-    → AllFrom alarm jobs → AllFrom alarm (with_at place f jobs)
-all-with_at alarm place f keeps [] from = tt
-all-with_at alarm zero f keeps (job ∷ jobs) from = (keeps job from.0, from.1)
-all-with_at alarm (suc place) f keeps (job ∷ jobs) from = (from.0, all-with_at alarm place f keeps jobs from.1)
-
 pub from-changed : (alarm at : ℕ) (f : Instance → Instance) → Keeps alarm f → (job : JobInstances) → AreFrom alarm job.instances → AreFrom alarm (changed_in at f job).instances
 from-changed alarm at f keeps job from = from-with_at alarm at f keeps job.instances from
 
@@ -93,12 +86,6 @@ from-unblocked alarm id (x ∷ xs) from = (from.0, from-unblocked alarm id xs fr
 pub all-unblocked : (alarm : ℕ) (id : EventId) (jobs : List JobInstances) → AllFrom alarm jobs → AllFrom alarm (map (unblocked_in id) jobs)
 all-unblocked alarm id [] from = tt
 all-unblocked alarm id (job ∷ jobs) from = (from-unblocked alarm id job.instances from.0, all-unblocked alarm id jobs from.1)
-
--- jobs are so if one changes, or none where the change is refused
-pub all-if_ok : {A E : Type 0} (r : Result A E) (alarm place : ℕ) (f : JobInstances → JobInstances) → ((job : JobInstances) → AreFrom alarm job.instances → AreFrom alarm (f job).instances)
-    → (old new : List JobInstances) → OnOk r (new ≡ with_at place f old) → OnErr r (new ≡ old) → AllFrom alarm old → AllFrom alarm new
-all-if_ok (Ok x) alarm place f keeps old new ok err from = subst (AllFrom alarm) (sym ok) (all-with_at alarm place f keeps old from)
-all-if_ok (Err e) alarm place f keeps old new ok err from = subst (AllFrom alarm) (sym err) from
 
 -- the alarm after a change is no later
 least : (at alarm : ℕ) → (if nat_lt at alarm then at else alarm) ≤ alarm
@@ -151,15 +138,3 @@ after-keeps (change.Answers its pid) alarm x from = from
 after-keeps (change.Loses its) alarm x from = from
 after-keeps (change.Waits event) alarm x from = from
 after-keeps (change.Respawns moment) alarm x from = from
-
--- the search for the earliest goes on
-pub from-more : (alarm i : ℕ) (xs : List Instance) (x : Instance) → i < length xs → x ≡ get_or xs i x → AreFrom alarm (take i xs) → IsFrom alarm (kill_at x) → AreFrom alarm (take (suc i) xs)
-from-more alarm i [] x within is from new = absurd (omega (arith, within))
-from-more alarm zero (y ∷ ys) x within is from new = (subst (λ (z : Instance). IsFrom alarm (kill_at z)) is new, tt)
-from-more alarm (suc i) (y ∷ ys) x within is from new = (from.0, from-more alarm i ys x (omega (arith, within)) is from.1 new)
-
-pub all-more : (alarm i : ℕ) (jobs : List JobInstances) (job : JobInstances) → i < length jobs → job ≡ get_or jobs i job → AllFrom alarm (take i jobs) → AreFrom alarm job.instances
-    → AllFrom alarm (take (suc i) jobs)
-all-more alarm i [] job within is from new = absurd (omega (arith, within))
-all-more alarm zero (y ∷ ys) job within is from new = (subst (λ (z : JobInstances). AreFrom alarm z.instances) is new, tt)
-all-more alarm (suc i) (y ∷ ys) job within is from new = (from.0, all-more alarm i ys job (omega (arith, within)) is from.1 new)

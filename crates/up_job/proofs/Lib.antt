@@ -4,6 +4,7 @@ pub mod InstanceLemmas
 pub mod JobLemmas
 pub mod MomentLemmas
 pub mod TimerLemmas
+pub mod EachJob
 pub mod AlarmLemmas
 pub mod WaitLemmas
 pub mod Blocked

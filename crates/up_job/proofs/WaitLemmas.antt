@@ -1,6 +1,7 @@
 -- Lists of instances of which none waits for an event.
-use Rattle.std.proofs.Common.{◌≡◌, ℕ, zero, suc, ◌+◌, Bool, true, false, ◌||◌, List, [], ◌∷◌, Option, None, Some, is_some, bytes_eq, if◌then◌else◌, refl, ◌∙◌, ap}
+use Rattle.std.proofs.Common.{◌≡◌, ℕ, zero, suc, ◌+◌, Bool, true, false, ◌||◌, List, [], ◌∷◌, map, Option, None, Some, is_some, bytes_eq, if◌then◌else◌, refl, ◌∙◌, ap}
 use Rattle.up_conf.specs.Order.{is_below}
+use Rattle.up_conf.specs.declared.job.JobDef.{JobDef}
 use Rattle.up_model.specs.declared.event_id.EventId.{EventId}
 use Rattle.up_model.specs.declared.state.State.{State}
 use Rattle.up_model.specs.declared.state.State.TheVariants.{Starting}
@@ -8,11 +9,14 @@ use Rattle.up_model.specs.Values.{Bytes}
 use Rattle.up_job.specs.declared.change.Change.{Change}
 use Rattle.up_job.specs.declared.change.Change.TheVariants as change
 use Rattle.up_job.specs.declared.instance.Instance.{Instance}
+use Rattle.up_job.specs.declared.instances.JobInstances.{JobInstances}
 use Rattle.up_job.specs.Changes.{changed, entered}
 use Rattle.up_job.specs.InstanceLists.{with_change, with_instance, without}
-use Rattle.up_job.specs.Lists.{with_at, without_at}
-use Rattle.up_job.specs.Unblocking.{blocked_from, is_event}
+use Rattle.up_job.specs.JobLists.{changed_in, new_job, with_made}
+use Rattle.up_job.specs.Lists.{with_at, with_named, without_at}
+use Rattle.up_job.specs.Unblocking.{blocked_from, is_event, key_from, NobodyWaits}
 use Rattle.up_job.specs.Waiting.{any_waits, is_wait}
+use Rattle.up_job.proofs.EachJob.{each-with_at}
 
 or-parts : (a b : Bool) → (a || b) ≡ false → (a ≡ false) × (b ≡ false)
 or-parts true b none = absurd cc
@@ -116,3 +120,33 @@ calm-blocked id low [] none = refl
 calm-blocked id low (x ∷ xs) none =
     let parts = or-parts (is_some x.blocker) (any_waits xs) none in
     rw (not-event id x.blocker parts.0) (calm-blocked id (low + 1) xs parts.1)
+
+-- the instances of all jobs
+
+pub nobody-new : (jobs : List JobDef) → NobodyWaits (map new_job jobs)
+nobody-new [] = tt
+nobody-new (job ∷ jobs) = (refl, nobody-new jobs)
+
+pub nobody-changed : (may : Bool) (its : Change) (at place : ℕ) (jobs : List JobInstances) → (may ≡ false → NobodyWaits jobs) → (may || is_wait its) ≡ false
+    → NobodyWaits (with_at place (changed_in at (changed its)) jobs)
+nobody-changed may its at place jobs before calm =
+    let parts = or-parts may (is_wait its) calm in
+    each-with_at (λ xs. any_waits xs ≡ false) place (changed_in at (changed its)) (λ job none. calm-with_at at (changed its) (calm-changed its parts.1) job.instances none) jobs (before parts.0)
+
+pub calm-made : (y : Instance) → is_some y.blocker ≡ false → (job : JobInstances) → any_waits job.instances ≡ false → any_waits (with_made y job).instances ≡ false
+calm-made y calm job none = among job.instances none
+  where
+    among : (xs : List Instance) → any_waits xs ≡ false → any_waits (with_named (λ i. i.name) y xs) ≡ false
+    among [] none = or-both (is_some y.blocker) false calm refl
+    among (x ∷ xs) none =
+        let parts = or-parts (is_some x.blocker) (any_waits xs) none in
+        by_case (is_below x.name y.name) (or-both (is_some x.blocker) (any_waits (with_named (λ i. i.name) y xs)) parts.0 (among xs parts.1))
+      where
+        by_case : (b : Bool) → any_waits (x ∷ with_named (λ i. i.name) y xs) ≡ false
+            → any_waits (if b then x ∷ with_named (λ i. i.name) y xs else y ∷ x ∷ xs) ≡ false
+        by_case true later = later
+        by_case false later = or-both (is_some y.blocker) (any_waits (x ∷ xs)) calm none
+
+pub nobody-blocked : (id : EventId) (low : ℕ) (jobs : List JobInstances) → NobodyWaits jobs → key_from id low jobs ≡ None
+nobody-blocked id low [] none = refl
+nobody-blocked id low (job ∷ jobs) none = rw (calm-blocked id 0 job.instances none.0) (nobody-blocked id (low + 1) jobs none.1)

@@ -1,10 +1,12 @@
 -- An event that finishes blocks nobody any more.
 use Rattle.std.specs.Prelude.{◌≡◌, ◌+◌, ◌==◌, ℕ, map, Bool, true, false, List, [], ◌∷◌, Option, None, Some, if◌then◌else◌}
+use Rattle.std.specs.List.{AllByRecursion}
 use Rattle.up_model.specs.declared.event_id.EventId.{EventId}
 use Rattle.up_job.specs.declared.instance.Instance.{Instance}
 use Rattle.up_job.specs.declared.instance_key.InstanceKey.{InstanceKey}
 use Rattle.up_job.specs.declared.instances.JobInstances.{JobInstances}
 use Rattle.up_job.specs.JobLists.{instance_at}
+use Rattle.up_job.specs.Waiting.{any_waits}
 
 -- whether this is the event of an id
 abbrev pub is_event : EventId → Option EventId → Bool
@@ -45,3 +47,7 @@ key_from id job (its ∷ jobs) = key_or job (blocked_from id 0 its.instances) (k
 abbrev pub IsBlocked : EventId → List JobInstances → Option InstanceKey → Type 0
 IsBlocked id jobs None = (key : InstanceKey) → is_blocked id (instance_at key jobs) ≡ false
 IsBlocked id jobs (Some key) = is_blocked id (instance_at key jobs) ≡ true
+
+-- no instance of any job waits for an event
+abbrev pub NobodyWaits : List JobInstances → Type 0
+NobodyWaits jobs = AllByRecursion (λ job. any_waits job.instances ≡ false) jobs

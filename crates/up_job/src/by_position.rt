@@ -1,5 +1,5 @@
 //! Instances by their keys. Only `add_at` allocates.
-ghost use Rattle.std.specs.Prelude.{◌≡◌, ◌<◌, length, map, OnOk, OnErr, IfOk, IfErr, option_map, IsSome, Some, None};
+ghost use Rattle.std.specs.Prelude.{◌≡◌, ◌<◌, false, length, map, OnOk, OnErr, IfOk, IfErr, option_map, IsSome, Some, None};
 ghost use Rattle.std.specs.Option.{option_copied};
 ghost use Rattle.std.specs.Borrow.{sem};
 ghost use Rattle.up_job.specs.Alarms.{AllFrom};
@@ -9,7 +9,7 @@ ghost use Rattle.up_job.specs.JobLists.{changed_at, changed_in, instance_at, ins
 ghost use Rattle.up_job.specs.Lending.{stop_on_of, LendsStopOnAt};
 ghost use Rattle.up_job.specs.Lists.{nth, with_at, position_in};
 ghost use Rattle.up_job.specs.Named as by_name;
-ghost use Rattle.up_job.specs.Unblocking.{IsBlocked, key_from, unblocked_in};
+ghost use Rattle.up_job.specs.Unblocking.{IsBlocked, NobodyWaits, key_from, unblocked_in};
 
 use crate::alarm::{alarm_after, earliest};
 use crate::change::Change;
@@ -17,6 +17,7 @@ use crate::fault::JobFault;
 use crate::instance::Instance;
 use crate::instance_key::InstanceKey;
 use crate::instances::{Instances, JobInstances};
+use crate::unblocking::may_wait;
 use up_image::JobFile;
 use up_marks::Trigger;
 use up_model::EventId;
@@ -91,6 +92,18 @@ fn first_blocked(jobs: &[JobInstances], id: EventId) -> Option<InstanceKey>
         }
     }
     None
+}
+
+// Whether an instance of one of these jobs may wait for an event.
+fn any_may_wait(jobs: &[JobInstances]) -> bool
+    ensures { result ≡ false → NobodyWaits jobs.now }
+{
+    for job in jobs {
+        if job.instances.may_wait() {
+            return true;
+        }
+    }
+    false
 }
 
 fn add_in(
@@ -193,6 +206,7 @@ impl Instances {
         ensures { self.new ≡ changed_at key (changed its) self.old }
     {
         self.alarm = alarm_after(&its, self.alarm);
+        self.may_wait = may_wait(self.may_wait, &its);
         change_at(&mut self.jobs, key, its);
     }
 
@@ -251,9 +265,13 @@ impl Instances {
         ensures after { self.new ≡ map (unblocked_in event) self.old }
         ensures blocked { IsBlocked event self.old result }
     {
+        if !self.may_wait {
+            return None;
+        }
         match first_blocked(self.jobs.as_slice(), event) {
             Some(key) => {
                 unblock(&mut self.jobs, event);
+                self.may_wait = any_may_wait(self.jobs.as_slice());
                 Some(key)
             }
             None => None,

@@ -3,7 +3,7 @@ ghost use Rattle.std.specs.Prelude.{◌≡◌, Some};
 ghost use Rattle.up_model.specs.declared.state.State.TheVariants as state;
 ghost use Rattle.up_model.specs.Life as life;
 
-use up_model::{Entry, JobEvent, Process, State};
+use up_model::{EntryActions, JobEvent, Process, State};
 
 fn is_pre_stop(from: State) -> bool
     ensures { result ≡ life.is_pre_stop from }
@@ -12,7 +12,7 @@ fn is_pre_stop(from: State) -> bool
 }
 
 // Entering a state without anything else.
-const PLAIN: Entry = Entry {
+const PLAIN: EntryActions = EntryActions {
     orders: None,
     emits: None,
     releases: false,
@@ -21,25 +21,25 @@ const PLAIN: Entry = Entry {
     removes: false,
 };
 
-fn orders(process: Process) -> Entry
+fn orders(process: Process) -> EntryActions
     ensures { result ≡ record life.plain { orders = Some process } }
 {
-    Entry {
+    EntryActions {
         orders: Some(process),
         ..PLAIN
     }
 }
 
-fn emits(event: JobEvent) -> Entry
+fn emits(event: JobEvent) -> EntryActions
     ensures { result ≡ record life.plain { emits = Some event } }
 {
-    Entry {
+    EntryActions {
         emits: Some(event),
         ..PLAIN
     }
 }
 
-fn entering_running(from: State, task: bool) -> Entry
+fn entering_running(from: State, task: bool) -> EntryActions
     ensures { result ≡ life.entering state.Running from task }
 {
     let emits = if is_pre_stop(from) {
@@ -47,7 +47,7 @@ fn entering_running(from: State, task: bool) -> Entry
     } else {
         Some(JobEvent::Started)
     };
-    Entry {
+    EntryActions {
         emits,
         releases: !task,
         ..PLAIN
@@ -55,16 +55,16 @@ fn entering_running(from: State, task: bool) -> Entry
 }
 
 /// What entering a state from another does (the Upstart Cookbook's table of states).
-pub fn entering(to: State, from: State, task: bool) -> Entry
+pub fn entering(to: State, from: State, task: bool) -> EntryActions
     ensures { result ≡ life.entering to from task }
 {
     match to {
-        State::Waiting => Entry {
+        State::Waiting => EntryActions {
             releases: true,
             removes: true,
             ..emits(JobEvent::Stopped)
         },
-        State::Starting => Entry {
+        State::Starting => EntryActions {
             refreshes: true,
             ..emits(JobEvent::Starting)
         },
@@ -74,7 +74,7 @@ pub fn entering(to: State, from: State, task: bool) -> Entry
         State::Running => entering_running(from, task),
         State::PreStop => orders(Process::PreStop),
         State::Stopping => emits(JobEvent::Stopping),
-        State::Killed => Entry {
+        State::Killed => EntryActions {
             kills: true,
             ..PLAIN
         },

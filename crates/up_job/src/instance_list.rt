@@ -1,5 +1,5 @@
 //! The instances of one job.
-ghost use Rattle.std.specs.Prelude.{◌≡◌, ◌<◌, [], ◌∷◌, length, map, option_map, IsSome, IfOk, IfErr, OnOk, OnErr, MatchResult, Some, None};
+ghost use Rattle.std.specs.Prelude.{◌≡◌, ◌<◌, [], ◌∷◌, false, length, map, option_map, IsSome, IfOk, IfErr, OnOk, OnErr, MatchResult, Some, None};
 ghost use Rattle.std.specs.Option.{option_copied};
 ghost use Rattle.up_conf.specs.Order.{is_below};
 ghost use Rattle.std.specs.Borrow.{sem};
@@ -9,6 +9,7 @@ ghost use Rattle.up_job.specs.Lists.{nth, position_in, with_at, without_at};
 ghost use Rattle.up_job.specs.Lending.{stop_on_of, LendsStopOn};
 ghost use Rattle.up_job.specs.Named as by_name;
 ghost use Rattle.up_job.specs.Unblocking.{blocked_from, unblocked};
+ghost use Rattle.up_job.specs.Waiting.{any_waits};
 
 use crate::change::{Change, apply};
 use crate::fault::JobFault;
@@ -259,6 +260,13 @@ impl InstanceList {
     {
         let instance = &mut self.instances[at];
         &mut instance.stop_on
+    }
+
+    /// Whether one of them may wait for an event.
+    pub(crate) fn may_wait(&self) -> bool
+        ensures { result ≡ false → any_waits self.now ≡ false }
+    {
+        self.may_wait
     }
 
     pub(crate) fn first_blocked(&self, id: EventId) -> Option<usize>

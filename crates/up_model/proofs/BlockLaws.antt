@@ -9,7 +9,7 @@ use Rattle.up_model.specs.declared.failure.End.TheVariants as end
 use Rattle.up_model.specs.declared.event.Event.{Event}
 use Rattle.up_model.specs.declared.input.Input.{Input}
 use Rattle.up_model.specs.declared.input.Input.TheVariants as input
-use Rattle.up_model.specs.declared.life.Entry as table
+use Rattle.up_model.specs.declared.life.EntryActions as table
 use Rattle.up_model.specs.declared.life.JobEvent.{JobEvent}
 use Rattle.up_model.specs.declared.state.Goal.TheVariants.{Start}
 use Rattle.up_model.specs.declared.state.State.{State}
@@ -251,7 +251,7 @@ five xs ys zs ws es c =
     ∙ ap (λ rest. ys ++ rest) (append_assoc zs (ws ++ es) c ∙ ap (λ rest. zs ++ rest) (append_assoc ws es c)))
 
 -- an instance that waits for no event enters a state, with all that the table says of that
-enter-keeps : (job : JobDef) (who : Who) (p : ℕ) (to : State) (entry : table.Entry) (c : Chronicle) → (entry.kills ≡ true → is_blocking to ≡ false)
+enter-keeps : (job : JobDef) (who : Who) (p : ℕ) (to : State) (entry : table.EntryActions) (c : Chronicle) → (entry.kills ≡ true → is_blocking to ≡ false)
     → blocker p c ≡ None → Keeps c → Keeps (enter_whole job who p to entry c ++ c)
 enter-keeps job who p to entry c apart free keeps =
     subst Keeps (sym (five releases signals emits orders (Entered p to ∷ []) c))

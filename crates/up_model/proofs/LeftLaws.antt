@@ -12,7 +12,7 @@ use Rattle.up_model.specs.declared.failure.Verdict.{Verdict}
 use Rattle.up_model.specs.declared.failure.Verdict.TheVariants as verdict
 use Rattle.up_model.specs.declared.input.Input.{Input}
 use Rattle.up_model.specs.declared.input.Input.TheVariants as input
-use Rattle.up_model.specs.declared.life.Entry as table
+use Rattle.up_model.specs.declared.life.EntryActions as table
 use Rattle.up_model.specs.declared.life.JobEvent.{JobEvent}
 use Rattle.up_model.specs.declared.output.Output.{Output}
 use Rattle.up_model.specs.declared.output.Output.TheVariants as output
@@ -89,7 +89,7 @@ emitting-none job who p to None c = refl
 emitting-none job who p to (Some kind) c = refl
 
 -- a move orders no more than the table says
-move-few : (job : JobDef) (who : Who) (p : ℕ) (to : State) (entry : table.Entry) (c : Chronicle) → ordered (enter_whole job who p to entry c) ≤ by_table entry.orders
+move-few : (job : JobDef) (who : Who) (p : ℕ) (to : State) (entry : table.EntryActions) (c : Chronicle) → ordered (enter_whole job who p to entry c) ≤ by_table entry.orders
 move-few job who p to entry c =
     omega (arith, ordered-append xs (ys ++ (zs ++ (ws ++ es))), ordered-append ys (zs ++ (ws ++ es)), ordered-append zs (ws ++ es), ordered-append ws es, released, signalled, emitting-none job who p to entry.emits ((ws ++ es) ++ c), ordering-few job p entry.orders)
   where
@@ -181,7 +181,7 @@ move-spends job x c there may =
     to : State
     to = next_of job p c
 
-    entry : table.Entry
+    entry : table.EntryActions
     entry = entering to from job.task
 
     es : List Entry

@@ -14,7 +14,7 @@ use Rattle.up_model.specs.declared.input.Input.{Input}
 use Rattle.up_model.specs.declared.input.Input.TheVariants as input
 use Rattle.up_model.specs.declared.loaded.Loaded.{Loaded as LoadedValue}
 use Rattle.up_model.specs.declared.loaded.Loaded.TheVariants as loaded
-use Rattle.up_model.specs.declared.life.Entry as table
+use Rattle.up_model.specs.declared.life.EntryActions as table
 use Rattle.up_model.specs.declared.state.State.{State}
 use Rattle.up_stanza.specs.declared.process.Process.TheVariants.{Main}
 use Rattle.up_model.specs.Answers.{after}
@@ -465,7 +465,7 @@ append-none (e ∷ es) others none = absurd cc
 moves-some : (job : JobDef) (x : Instance) (c : Chronicle) → move job x c ≡ [] → ⊥
 moves-some job x c none = by_state (next_of job x.place c) none
   where
-    by_entry : (to : State) (entry : table.Entry) → enter_whole job (who_of job x) x.place to entry c ≡ [] → ⊥
+    by_entry : (to : State) (entry : table.EntryActions) → enter_whole job (who_of job x) x.place to entry c ≡ [] → ⊥
     by_entry to entry none =
         let entered : List Entry = enter job (who_of job x) x.place to entry c in
         let ordered : List Entry = ordering job x.place entry.orders ++ Entered x.place to ∷ [] in

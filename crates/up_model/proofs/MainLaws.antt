@@ -8,7 +8,7 @@ use Rattle.up_stanza.specs.declared.process.Process.TheVariants as process
 use Rattle.up_model.specs.declared.failure.End.TheVariants as end
 use Rattle.up_model.specs.declared.input.Input.{Input}
 use Rattle.up_model.specs.declared.input.Input.TheVariants as input
-use Rattle.up_model.specs.declared.life.Entry as table
+use Rattle.up_model.specs.declared.life.EntryActions as table
 use Rattle.up_model.specs.declared.life.JobEvent.{JobEvent}
 use Rattle.up_model.specs.declared.process.How.{How}
 use Rattle.up_model.specs.declared.request.Command.{Command}
@@ -394,7 +394,7 @@ emitting-still job who p to None c = tt
 emitting-still job who p to (Some kind) c = (tt, tt)
 
 -- what an instance does on entering a state, after its order
-enter-keeps : (config : Configuration) (job : JobDef) (who : Who) (p : ℕ) (to : State) (entry : table.Entry) (c : Chronicle)
+enter-keeps : (config : Configuration) (job : JobDef) (who : Who) (p : ℕ) (to : State) (entry : table.EntryActions) (c : Chronicle)
     → Keeps (ordering job p entry.orders ++ Entered p to ∷ c) → Keeps (enter_whole job who p to entry c ++ c)
 enter-keeps config job who p to entry c keeps =
     subst Keeps (sym (five releases signals emits orders (Entered p to ∷ []) c))

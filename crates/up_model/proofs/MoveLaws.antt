@@ -4,7 +4,7 @@ use Rattle.std.specs.List.{AllByRecursion}
 use Rattle.up_stanza.specs.declared.process.Process.{Process}
 use Rattle.up_stanza.specs.declared.process.Process.TheVariants.{Main}
 use Rattle.up_conf.specs.declared.job.JobDef.{JobDef}
-use Rattle.up_model.specs.declared.life.Entry as table
+use Rattle.up_model.specs.declared.life.EntryActions as table
 use Rattle.up_model.specs.declared.life.JobEvent.{JobEvent}
 use Rattle.up_model.specs.declared.state.Goal.{Goal}
 use Rattle.up_model.specs.declared.state.Goal.TheVariants.{Start, Stop}
@@ -147,16 +147,16 @@ ordering-beside job p None = tt
 ordering-beside job p (Some its) = all-if (IsBeside p) (has_process job its) (Ordered p its ∷ []) (tt, tt)
 
 -- the event of entering a state
-abbrev emitted : JobDef → Who → ℕ → State → table.Entry → Chronicle → List Entry
+abbrev emitted : JobDef → Who → ℕ → State → table.EntryActions → Chronicle → List Entry
 emitted job who p to entry c = emitting job who p to entry.emits ((ordering job p entry.orders ++ Entered p to ∷ []) ++ c)
 
 -- what an instance does beside entering a state
-abbrev beside : JobDef → Who → ℕ → State → table.Entry → Chronicle → List Entry
+abbrev beside : JobDef → Who → ℕ → State → table.EntryActions → Chronicle → List Entry
 beside job who p to entry c =
     entries_if entry.releases (releasing p false (enter job who p to entry c ++ c))
     ++ (entries_if (entry.kills && lives p Main c) (Signalled p job.kill_signal false ∷ []) ++ (emitted job who p to entry c ++ ordering job p entry.orders))
 
-beside-all : (job : JobDef) (who : Who) (p : ℕ) (to : State) (entry : table.Entry) (c : Chronicle) → AllByRecursion (IsBeside p) (beside job who p to entry c)
+beside-all : (job : JobDef) (who : Who) (p : ℕ) (to : State) (entry : table.EntryActions) (c : Chronicle) → AllByRecursion (IsBeside p) (beside job who p to entry c)
 beside-all job who p to entry c =
     all-append (IsBeside p) (entries_if entry.releases (releasing p false (enter job who p to entry c ++ c))) _
     (all-if (IsBeside p) entry.releases (releasing p false (enter job who p to entry c ++ c)) (releasing-all (IsBeside p) (λ request answer. tt) p false tt (enter job who p to entry c ++ c)))
@@ -170,19 +170,19 @@ four xs ys zs ws es =
     ∙ sym (append_assoc xs (ys ++ (zs ++ ws)) es)
 
 -- a move is that an instance enters a state, and what it does beside
-enter-is : (job : JobDef) (who : Who) (p : ℕ) (to : State) (entry : table.Entry) (c : Chronicle)
+enter-is : (job : JobDef) (who : Who) (p : ℕ) (to : State) (entry : table.EntryActions) (c : Chronicle)
     → enter_whole job who p to entry c ++ c ≡ beside job who p to entry c ++ Entered p to ∷ c
 enter-is job who p to entry c =
     ap (λ es. es ++ c) (four (entries_if entry.releases (releasing p false (enter job who p to entry c ++ c))) (entries_if (entry.kills && lives p Main c) (Signalled p job.kill_signal false ∷ [])) (emitted job who p to entry c) (ordering job p entry.orders) (Entered p to ∷ []))
     ∙ append_assoc (beside job who p to entry c) (Entered p to ∷ []) c
 
-pub enter-moves : (job : JobDef) (who : Who) (p : ℕ) (to : State) (entry : table.Entry) (c : Chronicle) → AllByRecursion (IsMove p) (enter_whole job who p to entry c)
+pub enter-moves : (job : JobDef) (who : Who) (p : ℕ) (to : State) (entry : table.EntryActions) (c : Chronicle) → AllByRecursion (IsMove p) (enter_whole job who p to entry c)
 enter-moves job who p to entry c =
     subst (AllByRecursion (IsMove p)) (sym (four (entries_if entry.releases (releasing p false (enter job who p to entry c ++ c))) (entries_if (entry.kills && lives p Main c) (Signalled p job.kill_signal false ∷ [])) (emitted job who p to entry c) (ordering job p entry.orders) (Entered p to ∷ [])))
     (all-append (IsMove p) (beside job who p to entry c) (Entered p to ∷ []) (all-weaker (IsBeside p) (IsMove p) (beside-is_move p) (beside job who p to entry c) (beside-all job who p to entry c)) (refl, tt))
 
 -- the instance is then in that state
-pub enter-state : (job : JobDef) (who : Who) (p : ℕ) (to : State) (entry : table.Entry) (c : Chronicle) → state_of p (enter_whole job who p to entry c ++ c) ≡ to
+pub enter-state : (job : JobDef) (who : Who) (p : ℕ) (to : State) (entry : table.EntryActions) (c : Chronicle) → state_of p (enter_whole job who p to entry c ++ c) ≡ to
 enter-state job who p to entry c =
     ap (state_of p) (enter-is job who p to entry c)
     ∙ same-append (state_of p) (IsBeside p) (beside-state p p) (beside job who p to entry c) (Entered p to ∷ c) (beside-all job who p to entry c)
@@ -203,7 +203,7 @@ entered-all_instances p Waiting c = refl
 entered-all_instances p to c = refl
 
 -- an instance is gone when it entered waiting, and else stays
-pub enter-all_instances : (job : JobDef) (who : Who) (p : ℕ) (to : State) (entry : table.Entry) (c : Chronicle)
+pub enter-all_instances : (job : JobDef) (who : Who) (p : ℕ) (to : State) (entry : table.EntryActions) (c : Chronicle)
     → all_instances (enter_whole job who p to entry c ++ c) ≡ (if is_waiting to then without_instance p (all_instances c) else all_instances c)
 enter-all_instances job who p to entry c =
     ap all_instances (enter-is job who p to entry c)

@@ -123,7 +123,7 @@ other-with name y (z ∷ zs) differs = by_case (is_before z y) (other-with name 
     by_case false ih = rw differs refl
 
 -- and is found if its name is new
-new-with : (y : Instance) (ys : List Instance) → place_named y.name ys ≡ None → place_named y.name (with_instance y ys) ≡ Some y.place
+pub new-with : (y : Instance) (ys : List Instance) → place_named y.name ys ≡ None → place_named y.name (with_instance y ys) ≡ Some y.place
 new-with y [] none = rw (bytes_refl y.name) refl
 new-with y (z ∷ zs) none = by_case (is_before z y) (bytes_eq z.name y.name) refl none (new-with y zs)
   where

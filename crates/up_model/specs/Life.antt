@@ -3,7 +3,7 @@
 use Rattle.std.specs.Prelude.{Bool, true, false, ◌||◌, not, None, Some, if◌then◌else◌}
 use Rattle.up_stanza.specs.declared.process.Process as processes
 use Rattle.up_stanza.specs.declared.process.Process.TheVariants as process
-use Rattle.up_model.specs.declared.life.Entry.{Entry}
+use Rattle.up_model.specs.declared.life.EntryActions.{EntryActions}
 use Rattle.up_model.specs.declared.life.JobEvent.TheVariants as event
 use Rattle.up_model.specs.declared.state.Goal.{Goal}
 use Rattle.up_model.specs.declared.state.Goal.TheVariants.{Start, Stop}
@@ -75,7 +75,7 @@ is_pre_stop PreStop = true
 is_pre_stop other = false
 
 -- entering a state without anything else
-abbrev pub plain : Entry
+abbrev pub plain : EntryActions
 plain = record {
   orders = None;
   emits = None;
@@ -89,7 +89,7 @@ plain = record {
 -- what entering a state does, coming from another: which process is ordered, which event of the job is emitted, whether the holders
 -- are released, the pending environment comes into force, a living main is sent its signal, and the instance is removed
 -- (a task keeps its holders until it has ended)
-abbrev pub entering : State → (from : State) → (task : Bool) → Entry
+abbrev pub entering : State → (from : State) → (task : Bool) → EntryActions
 entering Waiting from task = record plain { emits = Some event.Stopped; releases = true; removes = true }
 entering Starting from task = record plain { emits = Some event.Starting; refreshes = true }
 entering PreStart from task = record plain { orders = Some process.PreStart }

@@ -6,7 +6,7 @@ use Rattle.up_stanza.specs.declared.process.Process.{Process}
 use Rattle.up_stanza.specs.declared.process.Process.TheVariants as process
 use Rattle.up_conf.specs.declared.job.JobDef.{JobDef}
 use Rattle.up_model.specs.declared.event.Event.{Event}
-use Rattle.up_model.specs.declared.life.Entry as table
+use Rattle.up_model.specs.declared.life.EntryActions as table
 use Rattle.up_model.specs.declared.life.JobEvent.{JobEvent}
 use Rattle.up_model.specs.declared.state.State.{State}
 use Rattle.up_model.specs.declared.who.Who.{Who}
@@ -51,14 +51,14 @@ ordering job instance None = []
 ordering job instance (Some its) = entries_if (has_process job its) (Ordered instance its ∷ [])
 
 -- an instance enters a state, with what the table says of that, but for its release
-abbrev pub enter : JobDef → Who → ℕ → (to : State) → table.Entry → Chronicle → List Entry
+abbrev pub enter : JobDef → Who → ℕ → (to : State) → table.EntryActions → Chronicle → List Entry
 enter job who instance to entry c =
     let entered = ordering job instance entry.orders ++ Entered instance to ∷ [] in
     entries_if (entry.kills && lives instance process.Main c) (Signalled instance job.kill_signal false ∷ [])
     ++ (emitting job who instance to entry.emits (entered ++ c) ++ entered)
 
 -- and with its release
-abbrev pub enter_whole : JobDef → Who → ℕ → (to : State) → table.Entry → Chronicle → List Entry
+abbrev pub enter_whole : JobDef → Who → ℕ → (to : State) → table.EntryActions → Chronicle → List Entry
 enter_whole job who instance to entry c =
     let entered = enter job who instance to entry c in
     entries_if entry.releases (releasing instance false (entered ++ c)) ++ entered

@@ -25,7 +25,7 @@ pub use event_id::EventId;
 pub use exit_status::ExitStatus;
 pub use failure::{Cause, End, Failure, Verdict};
 pub use input::Input;
-pub use life::{Entry, JobEvent};
+pub use life::{EntryActions, JobEvent};
 pub use limits::{MAX_EVENTS, MAX_INSTANCES};
 pub use loaded::Loaded;
 pub use output::{Order, Output};

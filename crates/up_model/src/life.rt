@@ -12,7 +12,7 @@ pub enum JobEvent {
 
 /// What entering a state does (the Upstart Cookbook's table of states).
 #[derive(Clone, Copy, Debug)]
-pub struct Entry {
+pub struct EntryActions {
     /// The process that is ordered, if the job has it.
     pub orders: Option<Process>,
     /// The event that the instance emits.

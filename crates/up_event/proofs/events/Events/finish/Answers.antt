@@ -1,30 +1,21 @@
-use Rattle.std.proofs.Common.{◌∙◌, sym, ap, Some, option_map}
-use Rattle.up_event.specs.LiveEvents.{without, outcome_of}
-use Rattle.up_event.proofs.Steps.{Rests, has_named_key, found, may_take, takes}
+use Rattle.std.proofs.Common.{◌≡◌, ◌∙◌, ap}
+use Rattle.up_event.specs.LiveEvents.{without}
+use Rattle.up_event.proofs.NextTurn.{found-apart, found-beyond}
 use Rattle.up_event.proofs.events.Events.finish.Goals as goal
-
-pub take_out-node-requires : goal.take_out-node-requires
-take_out-node-requires c =
-    let r : Rests c.self.inside.nodes c.self.inside.oldest c.self.inside.newest c.args.self.now = record { invariant = c.self.invariant; view_is = c.self.view_is } in
-    may_take _ _ _ _ c.args.id.key r (has_named_key _ _ _ _ c.args.id _ r c.requires)
-
-rests : (c : goal.After-outcome_of)
-    → Rests c.take_out-node.new.nodes c.end_without-self-inside.result c.end_without-self-inside-2.result (without c.args.id c.args.self.now)
-rests c =
-    let r : Rests c.self.inside.nodes c.self.inside.oldest c.self.inside.newest c.args.self.now = record { invariant = c.self.invariant; view_is = c.self.view_is } in
-    let out = c.take_out-node.ensures in
-    rw (c.end_without-self-inside.ensures, c.end_without-self-inside-2.ensures) (takes _ _ _ _ _ c.args.id c.take_out-node.result r out.taken out.nodes out.count)
+use Rattle.up_event.proofs.events.Events.finish.Goals.{then-is_turn_of, else-is_turn_of}
 
 pub invariant_of-self : goal.invariant_of-self
-invariant_of-self c = (rests c).invariant
-
-pub returns-clause-outcome : goal.returns-clause-outcome
-returns-clause-outcome c =
-    let r : Rests c.self.inside.nodes c.self.inside.oldest c.self.inside.newest c.args.self.now = record { invariant = c.self.invariant; view_is = c.self.view_is } in
-    ap (option_map outcome_of) (found _ _ _ _ c.args.id _ r c.take_out-node.ensures.taken) ∙ ap Some (sym c.outcome_of.ensures)
-
-pub returns-clause-gone : goal.returns-clause-gone
-returns-clause-gone c = (rests c).view_is
-
-pub returns-clause-distinct : goal.returns-clause-distinct
-returns-clause-distinct c = (rests c).invariant.distinct
+invariant_of-self c = (
+  elim c.if-is_turn_of.branch [
+    | then-is_turn_of w ↦
+        let queue : c.if-is_turn_of.self-inside.queue ≡ c.self.inside.queue = ap (λ e. e.queue) w.self-inside-is in
+        let next : c.if-is_turn_of.self-inside.next ≡ w.turn_after-self-inside.result = ap (λ e. e.next) w.self-inside-is in
+        found-beyond c.args.id c.self.inside.queue _ _ _ _ _ (c.finish.ensures.gone ∙ ap (without c.args.id) queue) c.self.invariant.0 c.is_turn_of.ensures w.if-is_turn_of.true
+        w.turn_after-self-inside.ensures next
+    | else-is_turn_of w ↦
+        let queue : c.if-is_turn_of.self-inside.queue ≡ c.self.inside.queue = ap (λ e. e.queue) w.self-inside-is in
+        let next : c.if-is_turn_of.self-inside.next ≡ c.self.inside.next = ap (λ e. e.next) w.self-inside-is in
+        found-apart c.args.id c.self.inside.queue _ _ _ _ (c.finish.ensures.gone ∙ ap (without c.args.id) queue) c.self.invariant.0 c.is_turn_of.ensures w.if-is_turn_of.false next
+  ],
+  c.finish.ensures.distinct,
+)

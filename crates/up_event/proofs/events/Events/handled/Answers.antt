@@ -1,19 +1,17 @@
 use Rattle.std.proofs.Common.{refl}
-use Rattle.up_event.proofs.Steps.{Rests, has_key, changes}
-use Rattle.up_event.specs.LiveEvents.{with_change, as_handled}
+use Rattle.up_event.specs.LiveEvents.{as_handled}
+use Rattle.up_event.proofs.NextTurn.{handled-idle, found-beside, found-since, live-changed}
 use Rattle.up_event.proofs.events.Events.handled.Goals as goal
 
-pub handle-requires : goal.handle-requires
-handle-requires c = has_key _ _ _ _ c.args.id (record { invariant = c.self.invariant; view_is = c.self.view_is }) c.requires
-
-rests : (c : goal.After-handle) → Rests c.handle.new.nodes c.self.inside.oldest c.self.inside.newest (with_change c.args.id as_handled c.args.self.now)
-rests c = changes _ _ _ _ _ c.args.id as_handled (λ _. refl) (record { invariant = c.self.invariant; view_is = c.self.view_is }) c.handle.ensures
+pub turn_since-self-inside-requires : goal.turn_since-self-inside-requires
+turn_since-self-inside-requires c = rw (c.handled.ensures.changed, c.self.view_is) (live-changed c.args.id as_handled c.args.self.now (λ _. refl) c.requires)
 
 pub invariant_of-self : goal.invariant_of-self
-invariant_of-self c = (rests c).invariant
+invariant_of-self c = (
+  found-since c.args.id as_handled _ _ _ _ _ (λ _. refl) c.handled.ensures.changed c.self.invariant.0 c.is_turn_of.ensures c.if-is_turn_of.true c.turn_since-self-inside.ensures,
+  c.handled.ensures.distinct,
+)
 
-pub returns-clause-changed : goal.returns-clause-changed
-returns-clause-changed c = (rests c).view_is
-
-pub returns-clause-distinct : goal.returns-clause-distinct
-returns-clause-distinct c = (rests c).invariant.distinct
+pub invariant_of-self-else-is_turn_of : goal.invariant_of-self-else-is_turn_of
+invariant_of-self-else-is_turn_of c =
+    (found-beside c.args.id as_handled _ _ _ _ handled-idle c.handled.ensures.changed c.self.invariant.0 c.is_turn_of.ensures c.if-is_turn_of.false, c.handled.ensures.distinct)

@@ -1,19 +1,18 @@
 use Rattle.std.proofs.Common.{refl}
-use Rattle.up_event.proofs.Steps.{Rests, has_node, changes}
-use Rattle.up_event.specs.LiveEvents.{with_change, with_hold}
+use Rattle.up_event.specs.LiveEvents.{with_hold}
+use Rattle.up_event.proofs.NextTurn.{hold-idle, found-beside, found-since, live-changed}
+use Rattle.up_event.proofs.Steps.{some_of}
 use Rattle.up_event.proofs.events.Events.hold.Goals as goal
 
-pub hold-requires : goal.hold-requires
-hold-requires c = has_node _ _ _ _ c.args.id _ (record { invariant = c.self.invariant; view_is = c.self.view_is }) c.requires
-
-rests : (c : goal.After-hold) → Rests c.hold.new.nodes c.self.inside.oldest c.self.inside.newest (with_change c.args.id with_hold c.args.self.now)
-rests c = changes _ _ _ _ _ c.args.id with_hold (λ _. refl) (record { invariant = c.self.invariant; view_is = c.self.view_is }) c.hold.ensures
+pub turn_since-self-inside-requires : goal.turn_since-self-inside-requires
+turn_since-self-inside-requires c = rw (c.hold.ensures.changed, c.self.view_is) (live-changed c.args.id with_hold c.args.self.now (λ _. refl) (some_of _ _ c.requires))
 
 pub invariant_of-self : goal.invariant_of-self
-invariant_of-self c = (rests c).invariant
+invariant_of-self c = (
+  found-since c.args.id with_hold _ _ _ _ _ (λ _. refl) c.hold.ensures.changed c.self.invariant.0 c.is_turn_of.ensures c.if-is_turn_of.true c.turn_since-self-inside.ensures,
+  c.hold.ensures.distinct,
+)
 
-pub returns-clause-changed : goal.returns-clause-changed
-returns-clause-changed c = (rests c).view_is
-
-pub returns-clause-distinct : goal.returns-clause-distinct
-returns-clause-distinct c = (rests c).invariant.distinct
+pub invariant_of-self-else-is_turn_of : goal.invariant_of-self-else-is_turn_of
+invariant_of-self-else-is_turn_of c =
+    (found-beside c.args.id with_hold _ _ _ _ hold-idle c.hold.ensures.changed c.self.invariant.0 c.is_turn_of.ensures c.if-is_turn_of.false, c.hold.ensures.distinct)

@@ -2,4 +2,4 @@ use Rattle.up_job.proofs.AlarmLemmas.{all-zero}
 use Rattle.up_job.proofs.instances.Instances.change.Goals as goal
 
 pub invariant_of-self : goal.invariant_of-self
-invariant_of-self c = (c.change.ensures.order, all-zero _)
+invariant_of-self c = (c.change.ensures.order, all-zero _, λ calm. absurd cc)

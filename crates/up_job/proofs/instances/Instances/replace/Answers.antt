@@ -7,4 +7,4 @@ use Rattle.up_job.proofs.instances.Instances.replace.Goals as goal
 
 pub invariant_of-self-2 : goal.invariant_of-self-2
 invariant_of-self-2 c =
-    (subst (AreInOrder job_of) (sym c.in_ok-kept.ensures.all) (order-files (kept_job c.self.inside.jobs.items) (λ job. refl) c.args.jobs.now c.requires), all-zero c.in_ok-kept.kept.items)
+    (subst (AreInOrder job_of) (sym c.in_ok-kept.ensures.all) (order-files (kept_job c.self.inside.jobs.items) (λ job. refl) c.args.jobs.now c.requires), all-zero c.in_ok-kept.kept.items, λ calm. absurd cc)

@@ -1,7 +1,7 @@
 use Rattle.std.proofs.Common.{◌≡◌, ◌∙◌, ap, option_map}
 use Rattle.up_event.specs.declared.nodes.Node.{Node}
 use Rattle.up_event.proofs.Steps.{node_of}
-use Rattle.up_event.proofs.events.Events.find.Goals as goal
+use Rattle.up_event.proofs.queue.Queue.find.Goals as goal
 
 pub returns-in-Some : goal.returns-in-Some
 returns-in-Some c =
