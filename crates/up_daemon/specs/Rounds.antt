@@ -172,3 +172,14 @@ pub data Reaches (config : Configuration) (c : Chronicle) (start : DaemonState) 
 -- A whole round: all are written to, and no order is left.
 abbrev pub IsRound : Configuration → Chronicle → DaemonState → List Input → List (List Output) → DaemonState → Type 0
 IsRound config c start fed gave end = Reaches config c start (WritingTo []) (closed end fed gave)
+
+-- whatever round reaches the one reaches the other afterwards
+abbrev pub Advances : Part → RoundState → Part → RoundState → Type 0
+Advances part state part_after state_after = (config : Configuration) (c : Chronicle) (start : DaemonState)
+    → Reaches config c start part state → Reaches config c start part_after state_after
+
+-- so does one of which this is known, if it began with its clients
+abbrev pub AdvancesIf : (known : Type 0) → Part → RoundState → Part → RoundState → Type 0
+AdvancesIf known part state part_after state_after = (config : Configuration) (c : Chronicle) (start : DaemonState)
+    → (HasItsClients start → known)
+    → Reaches config c start part state → Reaches config c start part_after state_after

@@ -3,12 +3,10 @@ ghost use Rattle.std.specs.List.{AllByRecursion, list_any};
 ghost use Rattle.std.specs.Prelude.{◌≡◌, ◌≤◌, ◌<◌, ◌+◌, ◌++◌, ◌∷◌, ℕ, List, [], true, false, IfOk, OnOk, IfSome, IfNone, vec_len};
 ghost use Rattle.up_daemon.specs.Connected.{AreConnected};
 ghost use Rattle.up_daemon.specs.Peers.{Peer, peer_of, peers_of, numbers_of, waits, one_waits, IsEntered, IsAtRest, IsQueued};
-ghost use Rattle.up_daemon.specs.Rounds.{Reaches};
-ghost use Rattle.up_daemon.specs.RoundStates.{LettingIn, ReadingFrom, WritingTo, DaemonState, RoundState, HasItsClients};
+ghost use Rattle.up_daemon.specs.Rounds.{Advances, AdvancesIf};
+ghost use Rattle.up_daemon.specs.RoundStates.{LettingIn, ReadingFrom, WritingTo, RoundState};
 ghost use Rattle.up_daemon.specs.Seating.{seen, at_door, with_stayer, stayer};
 ghost use Rattle.up_daemon.specs.Visits.{most_clients, LetsIn};
-ghost use Rattle.up_model.specs.Chronicle.{Chronicle};
-ghost use Rattle.up_model.specs.Configuration.{Configuration};
 
 mod client;
 
@@ -30,11 +28,9 @@ pub(crate) struct Clients {
 
 // Reads the client once, if it may be read, and closes it if it can't be read any further. False if it was closed.
 fn read_or_close<D: Door>(client: &mut Client, door: &mut D) -> Result<bool, AllocError>
-    ensures reads { IfOk result (λ stays. (config : Configuration) (c : Chronicle) (start : DaemonState)
-        (unread : List Peer) (state : RoundState)
-        → Reaches config c start (ReadingFrom (peer_of client.old ∷ unread)) (at_door (D.calls door.old) state)
-        → Reaches config c start (ReadingFrom unread)
-        (at_door (D.calls door.new) (with_stayer stays client.new state))) }
+    ensures reads { IfOk result (λ stays. (unread : List Peer) (state : RoundState)
+        → Advances (ReadingFrom (peer_of client.old ∷ unread)) (at_door (D.calls door.old) state)
+        (ReadingFrom unread) (at_door (D.calls door.new) (with_stayer stays client.new state))) }
     ensures connected { IfOk result (λ stays. (before after : List ℕ)
         → AreConnected (D.connected door.old) (before ++ client.old.number ∷ after)
         → AreConnected (D.connected door.new) (before ++ stayer stays client.new.number after)) }
@@ -48,11 +44,9 @@ fn read_or_close<D: Door>(client: &mut Client, door: &mut D) -> Result<bool, All
 
 // Writes once to the client, if bytes wait for it, and closes it if the write fails. False if it was closed.
 fn write_or_close<D: Door>(client: &mut Client, door: &mut D) -> Result<bool, AllocError>
-    ensures writes { IfOk result (λ stays. (config : Configuration) (c : Chronicle) (start : DaemonState)
-        (unwritten : List Peer) (state : RoundState)
-        → Reaches config c start (WritingTo (peer_of client.old ∷ unwritten)) (at_door (D.calls door.old) state)
-        → Reaches config c start (WritingTo unwritten)
-        (at_door (D.calls door.new) (with_stayer stays client.new state))) }
+    ensures writes { IfOk result (λ stays. (unwritten : List Peer) (state : RoundState)
+        → Advances (WritingTo (peer_of client.old ∷ unwritten)) (at_door (D.calls door.old) state)
+        (WritingTo unwritten) (at_door (D.calls door.new) (with_stayer stays client.new state))) }
     ensures connected { IfOk result (λ stays. (before after : List ℕ)
         → AreConnected (D.connected door.old) (before ++ client.old.number ∷ after)
         → AreConnected (D.connected door.new) (before ++ stayer stays client.new.number after)) }
@@ -109,13 +103,10 @@ impl Clients {
 
     /// Lets in the clients that wait, while there is room for them.
     pub(crate) fn let_in<D: Door>(&mut self, door: &mut D) -> Result<(), AllocError>
-        ensures lets_in { OnOk result ((config : Configuration) (c : Chronicle) (start : DaemonState)
-            (state : RoundState)
-            → (HasItsClients start
-            → AreConnected (D.connected door.old) (numbers_of (peers_of self.old.list.items)))
-            → Reaches config c start LettingIn (seen self.old.list.items (D.calls door.old) state)
-            → Reaches config c start (ReadingFrom (peers_of self.new.list.items))
-            (seen [] (D.calls door.new) state)) }
+        ensures lets_in { OnOk result ((state : RoundState)
+            → AdvancesIf (AreConnected (D.connected door.old) (numbers_of (peers_of self.old.list.items)))
+            LettingIn (seen self.old.list.items (D.calls door.old) state)
+            (ReadingFrom (peers_of self.new.list.items)) (seen [] (D.calls door.new) state)) }
         ensures connected { OnOk result (AreConnected (D.connected door.old) (numbers_of (peers_of self.old.list.items))
             → AreConnected (D.connected door.new) (numbers_of (peers_of self.new.list.items))) }
     {
@@ -129,11 +120,9 @@ impl Clients {
 
     /// Reads each client once that has few enough requests. One that can't be read any further is closed.
     pub(crate) fn read<D: Door>(&mut self, door: &mut D) -> Result<(), AllocError>
-        ensures reads { OnOk result ((config : Configuration) (c : Chronicle) (start : DaemonState)
-            (state : RoundState)
-            → Reaches config c start (ReadingFrom (peers_of self.old.list.items))
-            (seen [] (D.calls door.old) state)
-            → Reaches config c start (ReadingFrom []) (seen self.new.list.items (D.calls door.new) state)) }
+        ensures reads { OnOk result ((state : RoundState)
+            → Advances (ReadingFrom (peers_of self.old.list.items)) (seen [] (D.calls door.old) state)
+            (ReadingFrom []) (seen self.new.list.items (D.calls door.new) state)) }
         ensures connected { OnOk result (AreConnected (D.connected door.old) (numbers_of (peers_of self.old.list.items))
             → AreConnected (D.connected door.new) (numbers_of (peers_of self.new.list.items))) }
     {
@@ -150,11 +139,9 @@ impl Clients {
 
     /// Writes once to each client that has waiting bytes. One that can't be written to is closed.
     pub(crate) fn write<D: Door>(&mut self, door: &mut D) -> Result<(), AllocError>
-        ensures writes { OnOk result ((config : Configuration) (c : Chronicle) (start : DaemonState)
-            (state : RoundState)
-            → Reaches config c start (WritingTo (peers_of self.old.list.items))
-            (seen [] (D.calls door.old) state)
-            → Reaches config c start (WritingTo []) (seen self.new.list.items (D.calls door.new) state)) }
+        ensures writes { OnOk result ((state : RoundState)
+            → Advances (WritingTo (peers_of self.old.list.items)) (seen [] (D.calls door.old) state)
+            (WritingTo []) (seen self.new.list.items (D.calls door.new) state)) }
         ensures connected { OnOk result (AreConnected (D.connected door.old) (numbers_of (peers_of self.old.list.items))
             → AreConnected (D.connected door.new) (numbers_of (peers_of self.new.list.items))) }
     {

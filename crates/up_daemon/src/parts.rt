@@ -4,13 +4,11 @@ ghost use Rattle.up_daemon.specs.Asking.{IsAsked};
 ghost use Rattle.up_daemon.specs.Connected.{AreConnected};
 ghost use Rattle.up_edge.specs.declared.passed.Passed.{Passed};
 ghost use Rattle.up_daemon.specs.Peers.{peers_of};
-ghost use Rattle.up_daemon.specs.Rounds.{Reaches};
-ghost use Rattle.up_daemon.specs.RoundStates.{Beginning, ReadingClock, FindingEnds, LettingIn, TakingRequests, TakingTurns, WritingTo, DaemonState, HasItsClients, with_clients};
-ghost use Rattle.up_daemon.specs.Working.{part_after, IsAt, Leads};
+ghost use Rattle.up_daemon.specs.Rounds.{Advances, AdvancesIf};
+ghost use Rattle.up_daemon.specs.RoundStates.{Beginning, ReadingClock, FindingEnds, LettingIn, TakingRequests, TakingTurns, WritingTo, with_clients};
+ghost use Rattle.up_daemon.specs.Working.{part_after, Leads};
 ghost use Rattle.up_edge.specs.Calls.{Calls};
 ghost use Rattle.up_edge.specs.declared.happened.Happened.{Happened};
-ghost use Rattle.up_model.specs.Chronicle.{Chronicle};
-ghost use Rattle.up_model.specs.Configuration.{Configuration};
 ghost use Rattle.up_model.specs.declared.loaded.Loaded.{Loaded};
 
 use crate::work::Work;
@@ -102,12 +100,10 @@ impl Work {
     /// Lets clients in, and reads each once.
     pub(crate) fn hear<D: Door>(&mut self, door: &mut D) -> Result<(), AllocError>
         ensures untouched { IsUntouched self.old self.new }
-        ensures hears { OnOk result ((config : Configuration) (c : Chronicle) (start : DaemonState)
-            (host : Calls Happened) (source : Calls Loaded)
-            → (HasItsClients start → AreConnected (D.connected door.old) (numbers_in self.old))
-            → Reaches config c start LettingIn (state_of self.old host (D.calls door.old) source [])
-            → Reaches config c start TakingRequests
-            (state_of self.new host (D.calls door.new) source [])) }
+        ensures hears { OnOk result ((host : Calls Happened) (source : Calls Loaded)
+            → AdvancesIf (AreConnected (D.connected door.old) (numbers_in self.old))
+            LettingIn (state_of self.old host (D.calls door.old) source [])
+            TakingRequests (state_of self.new host (D.calls door.new) source [])) }
         ensures connected { OnOk result (AreConnected (D.connected door.old) (numbers_in self.old)
             → AreConnected (D.connected door.new) (numbers_in self.new)) }
     {
@@ -119,12 +115,10 @@ impl Work {
     /// Writes once to each client that has waiting bytes.
     pub(crate) fn write<D: Door>(&mut self, door: &mut D) -> Result<(), AllocError>
         ensures untouched { IsUntouched self.old self.new }
-        ensures writes { OnOk result ((config : Configuration) (c : Chronicle) (start : DaemonState)
-            (host : Calls Happened) (source : Calls Loaded)
-            → Reaches config c start (WritingTo (peers_of self.old.clients.list.items))
+        ensures writes { OnOk result ((host : Calls Happened) (source : Calls Loaded)
+            → Advances (WritingTo (peers_of self.old.clients.list.items))
             (with_clients [] (state_of self.old host (D.calls door.old) source []))
-            → Reaches config c start (WritingTo [])
-            (state_of self.new host (D.calls door.new) source [])) }
+            (WritingTo []) (state_of self.new host (D.calls door.new) source [])) }
         ensures connected { OnOk result (AreConnected (D.connected door.old) (numbers_in self.old)
             → AreConnected (D.connected door.new) (numbers_in self.new)) }
     {
@@ -177,11 +171,9 @@ impl Work {
 
     /// Turns the queue of events until a turn would touch none, at most 256 times.
     pub(crate) fn turn<H: Host>(&mut self, host: &mut H) -> Result<(), AllocError>
-        ensures turns { OnOk result ((config : Configuration) (c : Chronicle) (start : DaemonState)
-            (door : Calls Passed) (source : Calls Loaded)
-            → IsAt config c start (TakingTurns 0) self.old.engine
-            (state_of self.old (H.calls host.old) door source [])
-            → IsAt config c start (WritingTo (peers_of self.new.clients.list.items)) self.new.engine
+        ensures turns { OnOk result ((door : Calls Passed) (source : Calls Loaded)
+            → Leads (TakingTurns 0) self.old.engine (state_of self.old (H.calls host.old) door source [])
+            (WritingTo (peers_of self.new.clients.list.items)) self.new.engine
             (with_clients [] (state_of self.new (H.calls host.new) door source []))) }
         ensures numbers { OnOk result (numbers_in self.new ≡ numbers_in self.old) }
     {

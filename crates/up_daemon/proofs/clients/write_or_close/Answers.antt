@@ -5,12 +5,12 @@ use Rattle.up_daemon.proofs.Doors.{writes, closes}
 use Rattle.up_daemon.proofs.clients.write_or_close.Goals as goal
 
 pub returns-then-branch-clause-writes : goal.returns-then-branch-clause-writes
-returns-then-branch-clause-writes g c config chronicle start unwritten state reaches =
+returns-then-branch-clause-writes g c unwritten state config chronicle start reaches =
     let wrote = writes config chronicle start unwritten state c.in_ok-write.field-0 c.args.client.now c.write.new.self (g.D.Door.calls c.args.door.now) (g.D.Door.calls c.write.new.door) c.in_ok-write.ensures.none c.in_ok-write.ensures.once reaches in
     rw c.if-branch.true at wrote
 
 pub returns-clause-writes : goal.returns-clause-writes
-returns-clause-writes g c config chronicle start unwritten state reaches =
+returns-clause-writes g c unwritten state config chronicle start reaches =
     let wrote = writes config chronicle start unwritten state c.in_ok-write.field-0 c.args.client.now c.write.new.self (g.D.Door.calls c.args.door.now) (g.D.Door.calls c.write.new.door) c.in_ok-write.ensures.none c.in_ok-write.ensures.once reaches in
     let closing = rw c.if-branch.false at wrote in
     closes config chronicle start (WritingTo unwritten) state c.write.new.self.number (g.D.Door.calls c.write.new.door) (g.D.Door.calls c.close.new.self) c.close.ensures.reports closing

@@ -28,13 +28,13 @@ returns-clause-round g c config chronicle start stands connected first is =
     let heard : IsAt config chronicle start TakingRequests c.hear.new.self.engine (state_of c.hear.new.self host (g.D.Door.calls c.hear.new.door) source [])
     = record {
       stands = rw (c.hear.ensures.untouched.engine, c.hear.ensures.untouched.log) found.stands;
-      reaches = c.in_ok-hear.ensures.hears config chronicle start host source known found.reaches;
+      reaches = c.in_ok-hear.ensures.hears host source config chronicle start known found.reaches;
     } in
     let served = c.in_ok-serve.ensures.goes (g.D.Door.calls c.hear.new.door) config chronicle start heard in
-    let turned = c.in_ok-turn.ensures.turns config chronicle start (g.D.Door.calls c.hear.new.door) source_after served in
+    let turned = c.in_ok-turn.ensures.turns (g.D.Door.calls c.hear.new.door) source_after config chronicle start served in
     record {
       stands = rw (c.write.ensures.untouched.engine, c.write.ensures.untouched.log) turned.stands;
-      reaches = c.in_ok-write.ensures.writes config chronicle start (g.H.Host.calls c.turn.new.host) source_after turned.reaches;
+      reaches = c.in_ok-write.ensures.writes (g.H.Host.calls c.turn.new.host) source_after config chronicle start turned.reaches;
     }
 
 pub returns-clause-connected : goal.returns-clause-connected

@@ -12,9 +12,9 @@ loop-client-preserved-in-Continue-branch-3 g c =
     let before = c.loop-client.invariant in
     let list = c.loop-client.self.list.items in
     record {
-      reads = λ config chronicle start state reaches.
-          let so_far = rw taken.0 at before.reads config chronicle start state reaches in
-          let done = c.in_ok-read_or_close.ensures.reads config chronicle start (peers_of (into_iter_items c.next.new.self)) (with_clients (peers_of list) state) so_far in
+      reads = λ state config chronicle start reaches.
+          let so_far = rw taken.0 at before.reads state config chronicle start reaches in
+          let done = c.in_ok-read_or_close.ensures.reads (peers_of (into_iter_items c.next.new.self)) (with_clients (peers_of list) state) config chronicle start so_far in
           rw (c.in_ok-push.ensures.items, map-append peer_of list (c.read_or_close.new.client ∷ [])) (rw c.if-branch.true at done);
       connected = λ are.
           let so_far = rw taken.0 at before.connected are in
@@ -28,9 +28,9 @@ loop-client-preserved g c =
     let taken = c.in-Some.ensures.steps in
     let before = c.loop-client.invariant in
     record {
-      reads = λ config chronicle start state reaches.
-          let so_far = rw taken.0 at before.reads config chronicle start state reaches in
-          let done = c.in_ok-read_or_close.ensures.reads config chronicle start (peers_of (into_iter_items c.next.new.self)) (with_clients (peers_of c.loop-client.self.list.items) state) so_far in
+      reads = λ state config chronicle start reaches.
+          let so_far = rw taken.0 at before.reads state config chronicle start reaches in
+          let done = c.in_ok-read_or_close.ensures.reads (peers_of (into_iter_items c.next.new.self)) (with_clients (peers_of c.loop-client.self.list.items) state) config chronicle start so_far in
           rw c.if-branch.false at done;
       connected = λ are.
           let so_far = rw taken.0 at before.connected are in

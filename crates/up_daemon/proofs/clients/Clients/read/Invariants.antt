@@ -1,19 +1,17 @@
 use Rattle.std.proofs.Common.{◌≡◌, ◌++◌, [], length}
 use Rattle.std.specs.Vec.Iter.{into_iter_items, into_iter_len}
-use Rattle.up_model.specs.Chronicle.{Chronicle}
-use Rattle.up_model.specs.Configuration.{Configuration}
 use Rattle.up_daemon.specs.Connected.{AreConnected}
 use Rattle.up_daemon.specs.Peers.{peers_of, numbers_of}
-use Rattle.up_daemon.specs.Rounds.{Reaches}
-use Rattle.up_daemon.specs.RoundStates.{DaemonState, RoundState, ReadingFrom}
+use Rattle.up_daemon.specs.Rounds.{Advances}
+use Rattle.up_daemon.specs.RoundStates.{RoundState, ReadingFrom}
 use Rattle.up_daemon.specs.Seating.{seen}
 use Rattle.up_daemon.proofs.clients.Clients.read.Given as goal
 
 abbrev pub invariant-loop-client : goal.invariant-loop-client
 invariant-loop-client g l = record {
-  reads : (config : Configuration) (c : Chronicle) (start : DaemonState) (state : RoundState)
-      → Reaches config c start (ReadingFrom (peers_of l.fn.self.list.items)) (seen [] (g.D.Door.calls l.fn.door) state)
-      → Reaches config c start (ReadingFrom (peers_of (into_iter_items l.client-iterator))) (seen l.self.list.items (g.D.Door.calls l.door) state);
+  reads : (state : RoundState)
+      → Advances (ReadingFrom (peers_of l.fn.self.list.items)) (seen [] (g.D.Door.calls l.fn.door) state)
+      (ReadingFrom (peers_of (into_iter_items l.client-iterator))) (seen l.self.list.items (g.D.Door.calls l.door) state);
   connected : AreConnected (g.D.Door.connected l.fn.door) (numbers_of (peers_of l.fn.self.list.items))
       → AreConnected (g.D.Door.connected l.door) (numbers_of (peers_of l.self.list.items) ++ numbers_of (peers_of (into_iter_items l.client-iterator)));
   left : into_iter_len l.client-iterator ≡ length (into_iter_items l.client-iterator);

@@ -21,7 +21,7 @@ loop-turn-preserved g c =
     }
 
 pub returns-then-not-has_turn-clause-turns : goal.returns-then-not-has_turn-clause-turns
-returns-then-not-has_turn-clause-turns g c config chronicle start door source at =
+returns-then-not-has_turn-clause-turns g c door source config chronicle start at =
     let so_far = c.loop-turn.invariant.goes door source config chronicle start at in
     let history = after_all config chronicle c.loop-turn.self.log.fed.items in
     record {
@@ -31,7 +31,7 @@ returns-then-not-has_turn-clause-turns g c config chronicle start door source at
     }
 
 pub returns-clause-turns : goal.returns-clause-turns
-returns-clause-turns g c config chronicle start door source at =
+returns-clause-turns g c door source config chronicle start at =
     let so_far = c.loop-turn.invariant.goes door source config chronicle start at in
     record {
       stands = so_far.stands;
