@@ -21,10 +21,12 @@ pub mod Acting
 pub mod Calm
 pub mod Ends
 pub mod Alone
+pub mod Killing
 pub mod Turning
 pub mod Hurry
 pub mod Requesting
 pub mod Changing
+pub mod Doing
 pub mod Asking
 pub mod Loading
 pub mod Runs

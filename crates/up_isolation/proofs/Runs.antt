@@ -45,7 +45,8 @@ use Rattle.up_isolation.proofs.Hurry.{waits-settle}
 use Rattle.up_isolation.proofs.Alone.{freeing, blocker_of, begin, alone, Effected, Unnoticed, Noticed}
 use Rattle.up_isolation.proofs.Alone.{Hurried, Base, effect-spawned, effect-refused, effect-ended}
 use Rattle.up_isolation.proofs.Alone.{effect-emit}
-use Rattle.up_isolation.proofs.Turning.{effect-clock, effect-turn}
+use Rattle.up_isolation.proofs.Killing.{effect-clock}
+use Rattle.up_isolation.proofs.Turning.{effect-turn}
 use Rattle.up_isolation.proofs.Requesting.{effect-other}
 use Rattle.up_isolation.proofs.Asking.{effect-own}
 use Rattle.up_isolation.proofs.Steady.{view, part}
