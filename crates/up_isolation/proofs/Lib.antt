@@ -29,6 +29,7 @@ pub mod Changing
 pub mod Doing
 pub mod Asking
 pub mod Loading
+pub mod Following
 pub mod Runs
 pub mod Telling
 pub mod Stepping
