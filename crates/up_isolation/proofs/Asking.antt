@@ -1,46 +1,27 @@
 -- Requests that name the job.
-use Rattle.std.proofs.Common.{◌≡◌, ℕ, Bool, true, false, ◌&&◌, List, [], ◌∷◌, ◌++◌, Option, None, Some, length}
-use Rattle.std.proofs.Common.{if◌then◌else◌, bytes_eq, refl, sym, ◌∙◌, ap, subst, subst₂, arith, eq-eqb}
-use Rattle.std.proofs.Common.{append_assoc, lt-ltb}
-use Rattle.std.specs.List.{AllByRecursion}
-use Rattle.up_conf.specs.declared.job.JobDef.{JobDef}
-use Rattle.up_text.specs.Bindings.{set_all}
-use Rattle.up_model.specs.declared.who.Who.{Who}
-use Rattle.up_model.specs.Chronicle.{Chronicle, Entry, Given, Signalled}
-use Rattle.up_model.specs.Configuration.{Configuration}
-use Rattle.up_model.specs.Instances.{Instance, instances_of, instance_named}
-use Rattle.up_model.specs.Readings.{entry_at, holders}
-use Rattle.up_model.specs.Values.{Bytes, Bindings}
-use Rattle.up_model.proofs.FileLaws.{in_force-name, known-name}
-use Rattle.up_model.proofs.Places.{bytes_same}
-use Rattle.up_model.proofs.NameLaws.{called}
-use Rattle.up_isolation.specs.Views.{was_asked, Received, names_job, asks}
-use Rattle.up_isolation.specs.Parts.{contents, content_of}
+use Rattle.up_isolation.proofs.Names.{◌≡◌, ℕ, Bool, true, false, List, [], ◌∷◌, ◌++◌, Option, None, Some, length}
+use Rattle.up_isolation.proofs.Names.{if◌then◌else◌, bytes_eq, refl, sym, ◌∙◌, ap, subst, arith, ◌&&◌, subst₂}
+use Rattle.up_isolation.proofs.Names.{append_assoc, eq-eqb, AllByRecursion, JobDef, set_all, Expansion, Expands}
+use Rattle.up_isolation.proofs.Names.{Lacks, Malformed, expand, Input, Command, Who, Chronicle, Entry, Given}
+use Rattle.up_isolation.proofs.Names.{Signalled, Target, Nobody, Concerns, target_as, request_env, target_in}
+use Rattle.up_isolation.proofs.Names.{target_of, start_at, start, stop_at, stop, restart_at, restart, reload_at}
+use Rattle.up_isolation.proofs.Names.{reload, status_at, status, holders_of, outcome_by, outcome_of, entries_of}
+use Rattle.up_isolation.proofs.Names.{known_target, Configuration, effect, env_of_job, start_base, with_instance}
+use Rattle.up_isolation.proofs.Names.{file_in_force, known_file, own_file, Instance, instances_of, instance_named}
+use Rattle.up_isolation.proofs.Names.{offering, entry_at, holders, unanswered, asked, request_in, unless_answered}
+use Rattle.up_isolation.proofs.Names.{RequestValue, Bytes, Bindings, in_force-name, known-name, called, bytes_same}
+use Rattle.up_isolation.proofs.Names.{outcome-all, contents, content_of, was_asked, Received, asks, names_job}
+use Rattle.std.proofs.Common.{lt-ltb}
+use Rattle.up_model.specs.declared.input.Input.TheVariants as input
+use Rattle.up_model.specs.declared.request.Command.TheVariants as command
 use Rattle.up_isolation.proofs.Twins.{Twins}
 use Rattle.up_isolation.proofs.Known.{AreOlder}
 use Rattle.up_isolation.proofs.Likes.{only, Twin, Like, file-only, known-only}
-use Rattle.up_model.specs.declared.input.Input.{Input}
-use Rattle.up_model.specs.declared.input.Input.TheVariants as input
-use Rattle.up_model.specs.Due.{effect}
-use Rattle.up_model.specs.Offers.{offering}
-use Rattle.up_model.specs.Replies.{asked, unanswered, request_in, unless_answered}
 use Rattle.up_isolation.proofs.Steps.{like_given}
 use Rattle.up_isolation.proofs.Offering.{start_base-same}
 use Rattle.up_isolation.proofs.Ends.{IsMute}
 use Rattle.up_isolation.proofs.Hurry.{Waits, below}
 use Rattle.up_isolation.proofs.Acting.{Plain, None'}
-use Rattle.up_text.specs.Expansion.{Expansion, Expands, Lacks, Malformed, expand}
-use Rattle.up_model.specs.declared.request.Command.{Command}
-use Rattle.up_model.specs.declared.request.Command.TheVariants as command
-use Rattle.up_model.specs.Commands.{Target, Nobody, Concerns, target_as, request_env, target_in, target_of}
-use Rattle.up_model.specs.Commands.{start_at, start, stop_at, stop, restart_at, restart, reload_at, reload}
-use Rattle.up_model.specs.Commands.{status_at, status, holders_of, outcome_by, outcome_of, entries_of}
-use Rattle.up_model.specs.Commands.{known_target}
-use Rattle.up_model.specs.Environments.{env_of_job, start_base}
-use Rattle.up_model.specs.Events.{with_instance}
-use Rattle.up_model.specs.Files.{own_file, file_in_force, known_file}
-use Rattle.up_model.specs.Requests.{RequestValue}
-use Rattle.up_model.proofs.ReplyLaws.{outcome-all}
 use Rattle.up_isolation.proofs.Releases.{entry-append}
 use Rattle.up_isolation.proofs.Alone.{begin, Effected, Noticed, Hurried, Base, mutes-view, given-view}
 use Rattle.up_isolation.proofs.Alone.{mutes-offering, mutes-asked}

@@ -1,31 +1,20 @@
 -- What a command does to the job is alike in both chronicles.
-use Rattle.std.proofs.Common.{◌≡◌, ℕ, Bool, true, false, ◌&&◌, List, [], ◌∷◌, ◌++◌, Option, None, Some, length}
-use Rattle.std.proofs.Common.{if◌then◌else◌, refl, sym, ap, subst, subst₂, not, is_some, nat_lt, codes}
-use Rattle.up_conf.specs.declared.job.JobDef.{JobDef}
-use Rattle.up_model.specs.declared.who.Who.{Who}
-use Rattle.up_model.specs.Chronicle.{Chronicle, Entry, Made, Aimed, Restarted, Replied}
-use Rattle.up_model.specs.Configuration.{Configuration}
-use Rattle.up_model.specs.Instances.{Instance, instances_of, instance_named}
-use Rattle.up_model.specs.Values.{Bytes, Bindings}
-use Rattle.up_model.proofs.NameLaws.{called}
-use Rattle.up_isolation.specs.Parts.{contents}
+use Rattle.up_isolation.proofs.Names.{◌≡◌, ℕ, Bool, true, false, List, [], ◌∷◌, ◌++◌, Option, None, Some, is_some}
+use Rattle.up_isolation.proofs.Names.{length, if◌then◌else◌, refl, sym, ap, subst, not, ◌&&◌, subst₂, nat_lt}
+use Rattle.up_isolation.proofs.Names.{codes, JobDef, is_filled, Main, Start, Stop, Who, Chronicle, Entry, Made}
+use Rattle.up_isolation.proofs.Names.{Aimed, Restarted, Replied, start_at, stop_at, restart_at, reload_at}
+use Rattle.up_isolation.proofs.Names.{status_at, entries_of, Done, is_running, reloading, Configuration, own_file}
+use Rattle.up_isolation.proofs.Names.{Instance, instances_of, instance_named, stop_of, max_instances, start_of}
+use Rattle.up_isolation.proofs.Names.{is_start, entries_if, goal, state_of, lives, releasing, status_of, Bytes}
+use Rattle.up_isolation.proofs.Names.{Bindings, called, contents}
+use Rattle.up_model.specs.Status.{who_name}
+use Rattle.up_model.specs.Commands.{Refused, Told as Said}
 use Rattle.up_isolation.proofs.Lives.{Life}
 use Rattle.up_isolation.proofs.Known.{AreOlder}
 use Rattle.up_isolation.proofs.Likes.{Twin}
 use Rattle.up_isolation.proofs.Pairs.{Pair, made-same}
-use Rattle.up_model.specs.Predicates.{entries_if, is_start}
 use Rattle.up_isolation.proofs.Twins.{At, at-twins}
 use Rattle.up_isolation.proofs.Offering.{pair-at, found, Found, Neither, Two, own_file-same, twins-length}
-use Rattle.up_model.specs.Status.{who_name}
-use Rattle.up_text.specs.Scripts.{is_filled}
-use Rattle.up_model.specs.declared.state.Goal.TheVariants.{Start, Stop}
-use Rattle.up_model.specs.Commands.{Refused, Told as Said, Done, start_at, stop_at, is_running, restart_at}
-use Rattle.up_model.specs.Commands.{reloading, reload_at, status_at, entries_of}
-use Rattle.up_model.specs.Files.{own_file}
-use Rattle.up_model.specs.Offers.{max_instances, start_of, stop_of}
-use Rattle.up_stanza.specs.declared.process.Process.TheVariants.{Main}
-use Rattle.up_model.specs.Readings.{goal, state_of, lives}
-use Rattle.up_model.specs.Replies.{status_of, releasing}
 use Rattle.up_isolation.proofs.Releases.{status-same}
 use Rattle.up_isolation.proofs.Changing.{Acts, Does, Reply, Signal, act-aimed, act-restarted, act-new}
 

@@ -1,31 +1,24 @@
 -- A run and the job alone, by what came to its notice: in both the job is alike after each input.
-use Rattle.std.proofs.Common.{◌≡◌, ℕ, ◌⊎◌, inl, inr, Bool, true, false, List, [], ◌∷◌, ◌++◌, Option, None, Some}
-use Rattle.std.proofs.Common.{length, if◌then◌else◌, refl, sym, ◌∙◌, ap, ap₂, subst, suc, zero, subst₂}
-use Rattle.std.specs.List.{AllByRecursion}
-use Rattle.up_conf.specs.declared.job.JobDef.{JobDef}
-use Rattle.up_model.specs.Chronicle.{Chronicle, Entry, Given, Queued, Handled, Finished, Outside, Loaded}
-use Rattle.up_model.specs.Configuration.{Configuration}
-use Rattle.up_model.specs.Seen.{seen}
-use Rattle.up_model.specs.Values.{Bytes}
-use Rattle.up_model.proofs.NameLaws.{called}
-use Rattle.up_isolation.specs.Views.{Notice, deeds, Received, Arrived, Unblocked, asks, Replaced, jobs_called}
-use Rattle.up_isolation.specs.Parts as parts
-use Rattle.up_isolation.specs.Parts.{Item}
-use Rattle.up_isolation.proofs.Likes.{only, Like, start_tree, blank_nil, filled-same}
-use Rattle.up_model.specs.declared.input.Input.{Input}
+use Rattle.up_isolation.proofs.Names.{◌≡◌, ℕ, ◌⊎◌, inl, inr, Bool, true, false, List, [], ◌∷◌, ◌++◌, Option, None}
+use Rattle.up_isolation.proofs.Names.{Some, length, if◌then◌else◌, refl, sym, ◌∙◌, ap, ap₂, subst, subst₂, zero}
+use Rattle.up_isolation.proofs.Names.{suc, AllByRecursion, JobDef, Input, next, is_expected, after, after_all}
+use Rattle.up_isolation.proofs.Names.{Chronicle, Entry, Given, Queued, Handled, Finished, Loaded, Outside}
+use Rattle.up_isolation.proofs.Names.{Configuration, due, effect, names_in_order, instances_of, instance_named}
+use Rattle.up_isolation.proofs.Names.{in_force, with_jobs, loading, move_first, or_else, Bytes, work, settle}
+use Rattle.up_isolation.proofs.Names.{LoadsNothing, called, IsOf, due-about, Item, Arrived, Unblocked, jobs_called}
+use Rattle.up_isolation.proofs.Names.{Notice, Received, asks, Replaced, deeds}
 use Rattle.up_model.specs.declared.input.Input.TheVariants as input
-use Rattle.up_model.specs.Due.{due, effect}
-use Rattle.up_model.specs.Instances.{instance_named, instances_of}
-use Rattle.up_model.specs.Moves.{move_first}
-use Rattle.up_model.specs.Predicates.{or_else}
-use Rattle.up_model.specs.Work.{work, settle}
+use Rattle.up_model.specs.declared.loaded.Loaded.{Loaded as LoadedValue}
+use Rattle.up_model.specs.declared.loaded.Loaded.TheVariants as loaded
+use Rattle.up_model.proofs.Settling.{settle_rests}
+use Rattle.up_model.proofs.WorkLaws.{IsAbout as IsDue}
+use Rattle.up_model.proofs.EffectLaws.{AllowsTurns, effect-all}
+use Rattle.up_model.proofs.LoadLaws.{effect-no_load, effect-in_force, settle-in_force, after-same}
+use Rattle.up_isolation.specs.Parts as parts
+use Rattle.up_isolation.specs.Views as views
+use Rattle.up_isolation.proofs.Likes.{only, Like, start_tree, blank_nil, filled-same}
 use Rattle.up_isolation.proofs.Calm.{IsBlind, nothing-holds, calm-blind, calm-settle}
 use Rattle.up_isolation.proofs.Resting.{IsCalm, resting-settle}
-use Rattle.up_model.specs.Answers.{after, next, is_expected, after_all}
-use Rattle.up_model.specs.Files.{names_in_order}
-use Rattle.up_model.proofs.Settling.{settle_rests}
-use Rattle.up_model.proofs.WorkLaws.{IsAbout as IsDue, due-about}
-use Rattle.up_model.proofs.Sparing.{IsOf}
 use Rattle.up_isolation.proofs.Acting.{plain-settle}
 use Rattle.up_isolation.proofs.Hurry.{waits-settle}
 use Rattle.up_isolation.proofs.Alone.{freeing, blocker_of, begin, alone, Effected, Unnoticed, Noticed, Hurried}
@@ -36,12 +29,6 @@ use Rattle.up_isolation.proofs.Turning.{effect-turn}
 use Rattle.up_isolation.proofs.Requesting.{effect-other}
 use Rattle.up_isolation.proofs.Asking.{effect-own}
 use Rattle.up_isolation.proofs.Steady.{view, part, before, before-append, settle-before, part-split, view-grown}
-use Rattle.up_isolation.specs.Views as views
-use Rattle.up_model.specs.declared.loaded.Loaded.{Loaded as LoadedValue}
-use Rattle.up_model.specs.declared.loaded.Loaded.TheVariants as loaded
-use Rattle.up_model.specs.Loads.{in_force, with_jobs, loading}
-use Rattle.up_model.proofs.EffectLaws.{AllowsTurns, effect-all}
-use Rattle.up_model.proofs.LoadLaws.{LoadsNothing, effect-no_load, effect-in_force, settle-in_force, after-same}
 use Rattle.up_isolation.proofs.Loading.{only-load, load-plain, calm-load, effect-refused_load}
 
 -- in a step nothing but its input and its turn is noticed

@@ -1,34 +1,22 @@
 -- Readings of the clock: KILL by the timer.
-use Rattle.std.proofs.Common.{◌≡◌, ℕ, ◌<◌, inl, inr, Bool, true, false, ◌&&◌, List, [], ◌∷◌, ◌++◌, is_some, length}
-use Rattle.std.proofs.Common.{if◌then◌else◌, bytes_eq, refl, sym, ◌∙◌, ap, ap₂, subst, subst₂, arith, append-nil}
-use Rattle.std.proofs.Common.{append_assoc}
-use Rattle.std.specs.List.{AllByRecursion}
-use Rattle.up_conf.specs.declared.job.JobDef.{JobDef}
-use Rattle.up_stanza.specs.declared.process.Process.TheVariants.{Main}
-use Rattle.up_model.specs.Chronicle.{Chronicle, Entry, Given, Signalled}
-use Rattle.up_model.specs.Clock.{now, kill_due, overdue, all_overdue, kill, killing, milliseconds, has_passed}
-use Rattle.up_model.specs.Clock.{is_killed}
-use Rattle.up_model.specs.Configuration.{Configuration}
-use Rattle.up_model.specs.Instances.{Instance, instances_of}
-use Rattle.up_model.specs.Readings.{made_at, made_of}
-use Rattle.up_model.specs.Values.{Bytes}
-use Rattle.up_model.proofs.Places.{bytes_same}
-use Rattle.up_isolation.specs.Views.{is_of, Received, jobs_called}
+use Rattle.up_isolation.proofs.Names.{◌≡◌, ℕ, ◌<◌, inl, inr, Bool, true, false, List, [], ◌∷◌, ◌++◌, is_some}
+use Rattle.up_isolation.proofs.Names.{length, if◌then◌else◌, bytes_eq, refl, sym, ◌∙◌, ap, ap₂, subst, arith}
+use Rattle.up_isolation.proofs.Names.{append-nil, ◌&&◌, subst₂, append_assoc, AllByRecursion, JobDef, Main, Input}
+use Rattle.up_isolation.proofs.Names.{Chronicle, Entry, Given, Signalled, now, all_overdue, kill, killing}
+use Rattle.up_isolation.proofs.Names.{milliseconds, Configuration, effect, names_in_order, job_names, Instance}
+use Rattle.up_isolation.proofs.Names.{instances_of, entries_if, made_at, made_of, Bytes, bytes_same, same-append}
+use Rattle.up_isolation.proofs.Names.{all-append, all-weaker, is_of, jobs_called, Received}
+use Rattle.up_model.specs.declared.input.Input.TheVariants as input
+use Rattle.up_model.specs.Clock.{kill_due, overdue, has_passed, is_killed}
 use Rattle.up_isolation.proofs.Lives.{Life, life}
 use Rattle.up_isolation.proofs.Twins.{Twins, At}
 use Rattle.up_isolation.proofs.Known.{IsKnown, known}
 use Rattle.up_isolation.proofs.Likes.{Twin, Like, only, IsOther, foreign, owns-later}
-use Rattle.up_model.specs.declared.input.Input.{Input}
-use Rattle.up_model.specs.declared.input.Input.TheVariants as input
-use Rattle.up_model.specs.Due.{effect}
-use Rattle.up_model.specs.Predicates.{entries_if}
-use Rattle.up_model.proofs.Sparing.{all-append, all-weaker, same-append}
 use Rattle.up_isolation.proofs.Locals.{NotGiven, silent-more}
 use Rattle.up_isolation.proofs.Steps.{like_given}
 use Rattle.up_isolation.proofs.Offering.{pair-at}
 use Rattle.up_isolation.proofs.Ends.{IsMute}
 use Rattle.up_isolation.proofs.Acting.{Plain, None'}
-use Rattle.up_model.specs.Files.{job_names, names_in_order}
 use Rattle.up_isolation.proofs.Releases.{entry-append}
 use Rattle.up_isolation.proofs.Entries.{pair_signalled}
 use Rattle.up_isolation.proofs.Alone.{Effected, Noticed, Base, mutes-view, given-view, mutes-offering, mute-given}

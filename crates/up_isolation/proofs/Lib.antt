@@ -1,3 +1,4 @@
+pub mod Names
 pub mod Lives
 pub mod Sights
 pub mod Twins

@@ -1,25 +1,17 @@
 -- Two whole runs: a job's part, and what it does, go by what came to its notice.
-use Rattle.std.proofs.Common.{◌≡◌, inl, inr, Bool, true, false, List, [], ◌∷◌, ◌++◌, if◌then◌else◌, bytes_eq, refl}
-use Rattle.std.proofs.Common.{sym, ◌∙◌, ap, ap₂}
-use Rattle.up_conf.specs.declared.job.JobDef.{JobDef}
-use Rattle.up_model.specs.Chronicle.{Chronicle, Entry, Queued, Offered, Fired, Made, Aimed, Restarted, Released}
-use Rattle.up_model.specs.Chronicle.{Failed, Respawned, Entered, Ordered, Signalled, Replied, Entering}
-use Rattle.up_model.specs.Configuration.{Configuration}
-use Rattle.up_model.specs.Readings.{event_at}
-use Rattle.up_model.specs.Replies.{request_at}
-use Rattle.up_model.specs.Seen.{seen}
-use Rattle.up_model.specs.Values.{Bytes, Bindings}
-use Rattle.up_isolation.specs.Views.{Notice, notices, owns, was_asked, deeds}
+use Rattle.up_isolation.proofs.Names.{◌≡◌, inl, inr, Bool, true, false, List, [], ◌∷◌, ◌++◌, if◌then◌else◌}
+use Rattle.up_isolation.proofs.Names.{bytes_eq, refl, sym, ◌∙◌, ap, ap₂, JobDef, Input, next, is_expected, after}
+use Rattle.up_isolation.proofs.Names.{after_all, Chronicle, Entry, Queued, Offered, Fired, Made, Aimed, Restarted}
+use Rattle.up_isolation.proofs.Names.{Released, Failed, Respawned, Entered, Ordered, Signalled, Replied, Entering}
+use Rattle.up_isolation.proofs.Names.{Configuration, in_force, event_at, request_at, Bytes, Bindings, work, settle}
+use Rattle.up_isolation.proofs.Names.{items, items_if, hears_event, Item, noticed, owns, was_asked, Notice}
+use Rattle.up_isolation.proofs.Names.{notices, deeds}
 use Rattle.up_isolation.specs.Parts as parts
-use Rattle.up_isolation.specs.Parts.{Item, items, items_if, hears_event, noticed, owns_expression}
-use Rattle.up_isolation.proofs.Likes.{only}
-use Rattle.up_model.specs.declared.input.Input.{Input}
-use Rattle.up_model.specs.Work.{work, settle}
-use Rattle.up_model.specs.Answers.{after, next, is_expected, after_all}
+use Rattle.up_isolation.specs.Parts.{owns_expression}
 use Rattle.up_isolation.specs.Isolation.{MeanTheSame, IsUnique, GrowsByAtMostOne}
-use Rattle.up_isolation.proofs.Alone.{alone, begin_by}
 use Rattle.up_isolation.specs.Views as views
-use Rattle.up_model.specs.Loads.{in_force}
+use Rattle.up_isolation.proofs.Likes.{only}
+use Rattle.up_isolation.proofs.Alone.{alone, begin_by}
 use Rattle.up_isolation.proofs.Following.{Tracks, follows-part, Left, Same, More, tracks-after, tracks-next}
 use Rattle.up_isolation.proofs.Following.{tracked}
 

@@ -1,42 +1,32 @@
 -- Turns.
-use Rattle.std.proofs.Common.{◌≡◌, ℕ, ◌+◌, ◌<◌, ◌≤◌, ◌==◌, inl, inr, Bool, true, false, List, [], ◌∷◌, ◌++◌}
-use Rattle.std.proofs.Common.{Option, None, Some, is_some, length, if◌then◌else◌, refl, sym, ◌∙◌, ap, ap₂, subst}
-use Rattle.std.proofs.Common.{arith, eq-eqb, eqb-true, append_assoc, not, suc, ◌||◌}
-use Rattle.std.specs.List.{AllByRecursion}
-use Rattle.up_model.specs.declared.event.Event.{Event}
-use Rattle.up_model.specs.Chronicle.{Chronicle, Entry, Given, Queued, Handled, Finished, Entering, Outside}
-use Rattle.up_model.specs.Configuration.{Configuration}
-use Rattle.up_model.specs.Instances.{Instance, instances_of, place_named, instance_named}
-use Rattle.up_model.specs.Readings.{entry_at, event_at, blocker, event_of}
-use Rattle.up_model.specs.Replies.{request_at, asked, request_in, if_waits, waiter_in, waiter, answering_waiter}
-use Rattle.up_model.specs.Replies.{unless_answered}
-use Rattle.up_model.specs.Values.{Bytes}
-use Rattle.up_model.proofs.NameLaws.{called}
-use Rattle.up_isolation.specs.Views.{hears, was_asked, Arrived, Unblocked, is_blocked_by, unblocked, arrivals}
-use Rattle.up_isolation.specs.Parts.{hears_event}
+use Rattle.up_isolation.proofs.Names.{◌≡◌, ℕ, ◌<◌, ◌≤◌, ◌==◌, ◌||◌, inl, inr, Bool, true, false, List, [], ◌∷◌}
+use Rattle.up_isolation.proofs.Names.{◌++◌, Option, None, Some, is_some, length, if◌then◌else◌, refl, sym, ◌∙◌, ap}
+use Rattle.up_isolation.proofs.Names.{ap₂, subst, arith, not, append_assoc, eq-eqb, eqb-true, suc, ◌+◌}
+use Rattle.up_isolation.proofs.Names.{AllByRecursion, Event, Chronicle, Entry, Given, Queued, Handled, Finished}
+use Rattle.up_isolation.proofs.Names.{Entering, Outside, Configuration, telling, failed_event_of, finishing}
+use Rattle.up_isolation.proofs.Names.{turn_event, turn_of, effect, is_spoilt, Instance, instances_of}
+use Rattle.up_isolation.proofs.Names.{instance_named, place_named, is_open, offering, Live, queue, entry_at}
+use Rattle.up_isolation.proofs.Names.{event_at, blocker, event_of, request_at, asked, request_in, unless_answered}
+use Rattle.up_isolation.proofs.Names.{waiter, answering_waiter, RequestValue, Bytes, called, count, one_if}
+use Rattle.up_isolation.proofs.Names.{answering_waiter-all, hears_event, Arrived, Unblocked, hears, is_blocked_by}
+use Rattle.up_isolation.proofs.Names.{unblocked, arrivals, was_asked}
+use Rattle.up_model.specs.declared.input.Input.TheVariants as input
+use Rattle.up_model.specs.Replies.{if_waits, waiter_in}
+use Rattle.up_model.specs.Held.{is_held}
+use Rattle.up_model.specs.Laws.{AreByAge}
+use Rattle.up_model.proofs.QueueLaws.{queue_by_age}
 use Rattle.up_isolation.proofs.Lives.{Life}
-use Rattle.up_isolation.proofs.Sights.{told}
 use Rattle.up_isolation.proofs.Twins.{Twins, Match, At, at-twins, twins_map}
 use Rattle.up_isolation.proofs.Likes.{Twin, Like, hears_event-kept, foreign, IsOuter}
 use Rattle.up_isolation.proofs.Pairs.{Pair}
-use Rattle.up_model.specs.declared.input.Input.TheVariants as input
-use Rattle.up_model.specs.Due.{effect, telling, failed_event_of, finishing, turn_event, turn_of}
-use Rattle.up_model.specs.Offers.{offering, is_open}
 use Rattle.up_isolation.proofs.Offering.{pair-at, found, Found, Neither, Two, event-content, at-known-left}
 use Rattle.up_isolation.proofs.Offering.{once-of}
 use Rattle.up_isolation.proofs.Ends.{IsMute}
 use Rattle.up_isolation.proofs.Resting.{AreApart, like-apart}
 use Rattle.up_isolation.proofs.Acting.{Plain, None', Open, same-later}
-use Rattle.up_model.specs.Held.{is_spoilt, is_held}
-use Rattle.up_model.specs.Queue.{Live, queue}
-use Rattle.up_model.specs.Requests.{RequestValue}
-use Rattle.up_model.proofs.Places.{count, one_if}
-use Rattle.up_model.proofs.ReplyLaws.{answering_waiter-all}
 use Rattle.up_isolation.proofs.Known.{entry-later}
 use Rattle.up_isolation.proofs.Steps.{like_turn, like_queued, like_handled, like_finished, waits-own, blocker-own}
 use Rattle.up_isolation.proofs.Steps.{emitter}
-use Rattle.up_model.specs.Laws.{AreByAge}
-use Rattle.up_model.proofs.QueueLaws.{queue_by_age}
 use Rattle.up_isolation.proofs.Alone.{freeing, blocker_of, begin, Effected, Unnoticed, Noticed, Base, still-of}
 use Rattle.up_isolation.proofs.Alone.{mutes-view, other-view, mutes-offering, mutes-asked, unnoticed}
 use Rattle.up_isolation.proofs.Steady.{view}
