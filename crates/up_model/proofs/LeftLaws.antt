@@ -1,48 +1,25 @@
 -- The processes that the instances may still order become fewer by those that they order.
-use Rattle.std.proofs.Common.{◌≡◌, ℕ, zero, suc, ◌+◌, ◌≤◌, ◌==◌, ◌⊎◌, inl, inr, Bool, true, false, not, List, [], ◌∷◌}
-use Rattle.std.proofs.Common.{◌++◌, length, Option, None, Some, is_some, if◌then◌else◌, refl, sym, ◌∙◌, ap, subst}
-use Rattle.std.proofs.Common.{arith, append_assoc}
-use Rattle.std.specs.List.{AllByRecursion}
-use Rattle.up_conf.specs.declared.job.JobDef.{JobDef}
+use Rattle.up_model.proofs.Names.{◌≡◌, ℕ, zero, suc, ◌+◌, ◌≤◌, ◌==◌, ◌⊎◌, inl, inr, Bool, true, false, not, List}
+use Rattle.up_model.proofs.Names.{[], ◌∷◌, ◌++◌, length, Option, None, Some, is_some, if◌then◌else◌, refl, sym}
+use Rattle.up_model.proofs.Names.{◌∙◌, ap, subst, arith, append_assoc, AllByRecursion, JobDef, Process, Main, End}
+use Rattle.up_model.proofs.Names.{Failure, Verdict, Input, Answer, Goal, Start, Stop, State, Starting, Stopping}
+use Rattle.up_model.proofs.Names.{Who, after, Chronicle, Entry, Given, Queued, Handled, Finished, Made, Aimed}
+use Rattle.up_model.proofs.Names.{Released, Failed, Respawned, Entered, Ordered, Signalled, Replied, Loaded}
+use Rattle.up_model.proofs.Names.{Outside, Entering, Spoilt, all_overdue, kill, killing, Configuration, end_of}
+use Rattle.up_model.proofs.Names.{due, effect, own_file, names_in_order, instance_named, all_instances}
+use Rattle.up_model.proofs.Names.{verdict_on_end, end_itself, keep_failure, fail, carry_out, left_in, left_at}
+use Rattle.up_model.proofs.Names.{left_among, left, in_force, loading, move_first, offering, offer_next, is_start}
+use Rattle.up_model.proofs.Names.{entries_if, or_else, made_at, file_of, goal, state_of, blocker, failure, holders}
+use Rattle.up_model.proofs.Names.{pid_of, releasing, unanswered, answering_last, Bindings, work, settle}
 use Rattle.up_stanza.specs.declared.action.Action.{Action}
-use Rattle.up_stanza.specs.declared.process.Process.{Process}
-use Rattle.up_stanza.specs.declared.process.Process.TheVariants.{Main}
-use Rattle.up_model.specs.declared.failure.End.{End}
 use Rattle.up_model.specs.declared.failure.End.TheVariants as end
-use Rattle.up_model.specs.declared.failure.Failure.{Failure}
-use Rattle.up_model.specs.declared.failure.Verdict.{Verdict}
 use Rattle.up_model.specs.declared.failure.Verdict.TheVariants as verdict
-use Rattle.up_model.specs.declared.input.Input.{Input}
 use Rattle.up_model.specs.declared.input.Input.TheVariants as input
 use Rattle.up_model.specs.declared.output.Output.{Output}
 use Rattle.up_model.specs.declared.output.Output.TheVariants as output
-use Rattle.up_model.specs.declared.request.Answer.{Answer}
-use Rattle.up_model.specs.declared.state.Goal.{Goal}
-use Rattle.up_model.specs.declared.state.Goal.TheVariants.{Start, Stop}
-use Rattle.up_model.specs.declared.state.State.{State}
-use Rattle.up_model.specs.declared.state.State.TheVariants.{Starting, Stopping}
-use Rattle.up_model.specs.declared.who.Who.{Who}
-use Rattle.up_model.specs.Answers.{after}
-use Rattle.up_model.specs.Chronicle.{Chronicle, Entry, Given, Queued, Handled, Finished, Made, Aimed, Released}
-use Rattle.up_model.specs.Chronicle.{Failed, Respawned, Entered, Ordered, Signalled, Replied, Loaded, Outside}
-use Rattle.up_model.specs.Chronicle.{Entering, Spoilt}
-use Rattle.up_model.specs.Clock.{all_overdue, kill, killing}
-use Rattle.up_model.specs.Configuration.{Configuration}
-use Rattle.up_model.specs.Due.{due, effect, end_of}
-use Rattle.up_model.specs.Files.{own_file, names_in_order}
-use Rattle.up_model.specs.Instances.{instance_named, all_instances}
-use Rattle.up_model.specs.Judgement.{verdict_on_end, end_itself, keep_failure, fail, carry_out}
-use Rattle.up_model.specs.Left.{left_in, left_at, left_among, left, is_calm, spawns, Spends}
-use Rattle.up_model.specs.Loads.{in_force, loading}
-use Rattle.up_model.specs.Moves.{move_first}
-use Rattle.up_model.specs.Offers.{offering, offer_next}
+use Rattle.up_model.specs.Left.{is_calm, spawns, Spends}
 use Rattle.up_model.specs.Outputs.{order_for, order_by, order_of, signal_of, reply_of, outputs_of}
-use Rattle.up_model.specs.Readings.{made_at, file_of, id_at, goal, state_of, process_env, blocker, failure, holders}
-use Rattle.up_model.specs.Readings.{pid_of}
-use Rattle.up_model.specs.Replies.{releasing, unanswered, answering_last}
-use Rattle.up_model.specs.Predicates.{is_start, entries_if, or_else}
-use Rattle.up_model.specs.Values.{Bindings}
-use Rattle.up_model.specs.Work.{work, settle}
+use Rattle.up_model.specs.Readings.{id_at, process_env}
 use Rattle.up_model.proofs.EffectLaws.{loading-all}
 use Rattle.up_model.proofs.LeftSums.{among-no_more}
 use Rattle.up_model.proofs.ReplyLaws.{releasing-all, answering_hurried-all}

@@ -1,34 +1,22 @@
 -- A move leaves fewer processes to be ordered, by those that it orders.
-use Rattle.std.proofs.Common.{◌≡◌, ℕ, ◌+◌, ◌<◌, ◌≤◌, Bool, true, false, ◌&&◌, ◌||◌, not, List, [], ◌∷◌, ◌++◌, Option}
-use Rattle.std.proofs.Common.{None, Some, is_some, if◌then◌else◌, refl, sym, ◌∙◌, ap, subst, arith, eq-eqb}
-use Rattle.std.specs.List.{AllByRecursion}
-use Rattle.up_conf.specs.declared.job.JobDef.{JobDef}
-use Rattle.up_stanza.specs.declared.process.Process.{Process}
-use Rattle.up_stanza.specs.declared.process.Process.TheVariants.{Main}
+use Rattle.up_model.proofs.Names.{◌≡◌, ℕ, ◌+◌, ◌≤◌, Bool, true, false, not, List, [], ◌∷◌, ◌++◌, Option, None}
+use Rattle.up_model.proofs.Names.{Some, is_some, if◌then◌else◌, refl, sym, ◌∙◌, ap, subst, arith, ◌<◌, ◌&&◌, ◌||◌}
+use Rattle.up_model.proofs.Names.{eq-eqb, AllByRecursion, JobDef, Process, Main, JobEvent, Goal, Start, Stop}
+use Rattle.up_model.proofs.Names.{State, Starting, Stopping, Waiting, PostStart, Running, PreStop, Who, Chronicle}
+use Rattle.up_model.proofs.Names.{Entry, Entered, Ordered, Signalled, all_instances, Instance, without_instance}
+use Rattle.up_model.proofs.Names.{instances_of, left_in, left_at, left_among, left, next_state, entering}
+use Rattle.up_model.proofs.Names.{move_first, has_process, emitting, ordering, enter, enter_whole, may_leave}
+use Rattle.up_model.proofs.Names.{next_of, who_of, move, move_of, move_in, entries_if, or_else, is_waiting, goal}
+use Rattle.up_model.proofs.Names.{state_of, blocker, is_blocking, lives, releasing, Bytes}
 use Rattle.up_model.specs.declared.life.EntryActions as table
-use Rattle.up_model.specs.declared.life.JobEvent.{JobEvent}
-use Rattle.up_model.specs.declared.state.Goal.{Goal}
-use Rattle.up_model.specs.declared.state.Goal.TheVariants.{Start, Stop}
-use Rattle.up_model.specs.declared.state.State.{State}
-use Rattle.up_model.specs.declared.state.State.TheVariants.{Waiting, Starting, PostStart, Running, PreStop, Stopping}
-use Rattle.up_model.specs.declared.who.Who.{Who}
-use Rattle.up_model.specs.Chronicle.{Chronicle, Entry, Entered, Ordered, Signalled}
-use Rattle.up_model.specs.Instances.{Instance, without_instance, instances_of, all_instances}
-use Rattle.up_model.specs.Left.{left_in, left_at, left_among, left}
-use Rattle.up_model.specs.Life.{next_state, entering}
-use Rattle.up_model.specs.Moves.{has_process, emitting, ordering, enter, enter_whole, may_leave, next_of, who_of}
-use Rattle.up_model.specs.Moves.{move, move_of, move_in, move_first}
-use Rattle.up_model.specs.Readings.{goal, state_of, is_blocking, blocker, lives}
-use Rattle.up_model.specs.Replies.{releasing}
-use Rattle.up_model.specs.Predicates.{entries_if, or_else, is_waiting}
-use Rattle.up_model.specs.Values.{Bytes}
 use Rattle.up_model.proofs.FileLaws.{files-named}
 use Rattle.up_model.proofs.LeftSums.{IsKept, kept-fewer, gone-no_more}
 use Rattle.up_model.proofs.MoveLaws.{Leaves, leaves, IsMove, move-goal, move-is_of, enter-moves, enter-state}
 use Rattle.up_model.proofs.MoveLaws.{enter-all_instances}
 use Rattle.up_model.proofs.Places.{count, all-counted, instances-exist}
 use Rattle.up_model.proofs.ReplyLaws.{releasing-all}
-use Rattle.up_model.proofs.Sparing.{same-append, all-if, all-weaker, IsOf, spared-goal, spared-state, spared-blocker}
+use Rattle.up_model.proofs.Sparing.{same-append, all-if, all-weaker, IsOf, spared-goal, spared-state}
+use Rattle.up_model.proofs.Sparing.{spared-blocker}
 
 -- how many processes entries order
 abbrev pub ordered : List Entry → ℕ

@@ -1,25 +1,15 @@
 -- Rules by which no main is ordered while it lives, and the entries that keep them.
-use Rattle.std.proofs.Common.{◌≡◌, ℕ, ◌==◌, Bool, true, false, ◌&&◌, [], ◌∷◌, ◌++◌, length, Option, None, Some}
-use Rattle.std.proofs.Common.{is_some, if◌then◌else◌, bytes_eq, refl, sym, ◌∙◌, ap, subst, eqb-true}
-use Rattle.std.specs.List.{AllByRecursion}
-use Rattle.up_conf.specs.declared.job.JobDef.{JobDef}
-use Rattle.up_stanza.specs.declared.process.Process.{Process}
+use Rattle.up_model.proofs.Names.{◌≡◌, ℕ, ◌==◌, Bool, true, false, [], ◌∷◌, ◌++◌, length, Option, None, Some}
+use Rattle.up_model.proofs.Names.{is_some, if◌then◌else◌, refl, sym, ◌∙◌, ap, subst, ◌&&◌, bytes_eq, eqb-true}
+use Rattle.up_model.proofs.Names.{AllByRecursion, JobDef, Process, State, Stopping, PostStart, Running, PreStop}
+use Rattle.up_model.proofs.Names.{Spawned, Killed, Who, awaits, HasOneMain, Chronicle, Entry, Given, Made, Entered}
+use Rattle.up_model.proofs.Names.{Ordered, Configuration, instance_named, has_process, same_process, made_at}
+use Rattle.up_model.proofs.Names.{file_of, state_of, pid_of, lives, is_awaited, releasing, Bytes}
 use Rattle.up_stanza.specs.declared.process.Process.TheVariants as process
 use Rattle.up_model.specs.declared.input.Input.TheVariants as input
 use Rattle.up_model.specs.declared.process.How.{How}
-use Rattle.up_model.specs.declared.state.State.{State}
-use Rattle.up_model.specs.declared.state.State.TheVariants.{Spawned, PostStart, Running, PreStop, Stopping, Killed}
-use Rattle.up_model.specs.declared.who.Who.{Who}
-use Rattle.up_model.specs.Answers.{awaits}
-use Rattle.up_model.specs.Blocks.{HasOneMain}
-use Rattle.up_model.specs.Chronicle.{Chronicle, Entry, Given, Made, Entered, Ordered}
-use Rattle.up_model.specs.Configuration.{Configuration}
-use Rattle.up_model.specs.Instances.{instance_named}
-use Rattle.up_model.specs.Moves.{has_process}
-use Rattle.up_model.specs.Readings.{state_of, made_at, file_of, speaks_of, is_awaited, pid_of, lives}
-use Rattle.up_model.specs.Replies.{releasing}
-use Rattle.up_model.specs.Predicates.{same_process, same_who}
-use Rattle.up_model.specs.Values.{Bytes}
+use Rattle.up_model.specs.Readings.{speaks_of}
+use Rattle.up_model.specs.Predicates.{same_who}
 use Rattle.up_model.proofs.BlockLaws.{and-left}
 use Rattle.up_model.proofs.FileLaws.{file_of-later}
 use Rattle.up_model.proofs.NameLaws.{called, made-named, Singles, entered-singles, entered-named, made-singles}

@@ -1,42 +1,21 @@
 -- The main process of an instance lives from spawned to killed alone, and is awaited in spawned alone, so it isn't ordered while it lives.
-use Rattle.std.proofs.Common.{◌≡◌, ℕ, zero, suc, Bool, true, false, not, nat_lt, List, [], ◌∷◌, ◌++◌, length, Option}
-use Rattle.std.proofs.Common.{None, Some, codes, if◌then◌else◌, refl, sym, ◌∙◌, subst, append_assoc}
-use Rattle.std.specs.List.{AllByRecursion}
-use Rattle.up_expr.specs.Truth.{Sight}
-use Rattle.up_conf.specs.declared.job.JobDef.{JobDef}
-use Rattle.up_stanza.specs.declared.process.Process.{Process}
+use Rattle.up_model.proofs.Names.{◌≡◌, ℕ, zero, suc, Bool, true, false, not, List, [], ◌∷◌, ◌++◌, length, Option}
+use Rattle.up_model.proofs.Names.{None, Some, if◌then◌else◌, refl, sym, ◌∙◌, subst, append_assoc, nat_lt, codes}
+use Rattle.up_model.proofs.Names.{AllByRecursion, JobDef, Process, Sight, Input, Command, Start, Who, next, awaits}
+use Rattle.up_model.proofs.Names.{after, is_expected, after_all, HasOneMain, Chronicle, Entry, Given, Queued, Made}
+use Rattle.up_model.proofs.Names.{Aimed, Replied, Outside, Offered, Fired, StartOn, StopOn, all_overdue, killing}
+use Rattle.up_model.proofs.Names.{Refused, Done, Target, Nobody, Concerns, refusal, target_of, known_target}
+use Rattle.up_model.proofs.Names.{start_at, start, holders_of, outcome_by, outcome_of, entries_of, Configuration}
+use Rattle.up_model.proofs.Names.{turn_event, turn_of, end_by, due, effect, env_of_job, instance_name, events_at}
+use Rattle.up_model.proofs.Names.{events_env, with_instance, stopped_by, own_file, names_in_order, instance_named}
+use Rattle.up_model.proofs.Names.{Instance, instances_of, in_force, loading, move_first, offering, offer_next}
+use Rattle.up_model.proofs.Names.{is_open, stop_of, stop_by, stop_offer, stop_offer_in, max_instances, start_of}
+use Rattle.up_model.proofs.Names.{who_called, start_who, start_by, start_offer, start_env, is_start, entries_if}
+use Rattle.up_model.proofs.Names.{or_else, queue, goal, unanswered, answering_last, RequestValue, seen, holds}
+use Rattle.up_model.proofs.Names.{taken, was_offered, Bindings, Bytes, work, settle}
 use Rattle.up_model.specs.declared.failure.End.TheVariants as end
-use Rattle.up_model.specs.declared.input.Input.{Input}
 use Rattle.up_model.specs.declared.input.Input.TheVariants as input
-use Rattle.up_model.specs.declared.request.Command.{Command}
 use Rattle.up_model.specs.declared.request.Command.TheVariants as command
-use Rattle.up_model.specs.declared.state.Goal.TheVariants.{Start}
-use Rattle.up_model.specs.declared.who.Who.{Who}
-use Rattle.up_model.specs.Answers.{after, next, awaits, is_expected, after_all}
-use Rattle.up_model.specs.Blocks.{HasOneMain}
-use Rattle.up_model.specs.Chronicle.{Chronicle, Entry, Given, Queued, Offered, Fired, Made, Aimed, Replied, Outside}
-use Rattle.up_model.specs.Chronicle.{StartOn, StopOn}
-use Rattle.up_model.specs.Clock.{all_overdue, killing}
-use Rattle.up_model.specs.Commands.{Refused, Done, Target, Nobody, Concerns, refusal, target_of, known_target}
-use Rattle.up_model.specs.Commands.{start_at, start, holders_of, outcome_by, outcome_of, entries_of}
-use Rattle.up_model.specs.Configuration.{Configuration}
-use Rattle.up_model.specs.Due.{due, turn_event, turn_of, effect, end_by}
-use Rattle.up_model.specs.Environments.{env_of_job, instance_name}
-use Rattle.up_model.specs.Events.{events_at, events_env, with_instance, stopped_by}
-use Rattle.up_model.specs.Files.{own_file, names_in_order}
-use Rattle.up_model.specs.Instances.{Instance, instances_of, instance_named}
-use Rattle.up_model.specs.Loads.{in_force, loading}
-use Rattle.up_model.specs.Moves.{move_first}
-use Rattle.up_model.specs.Offers.{is_open, stop_of, stop_by, stop_offer, stop_offer_in, max_instances, start_of}
-use Rattle.up_model.specs.Offers.{who_called, start_who, start_by, start_offer, offering, offer_next, start_env}
-use Rattle.up_model.specs.Queue.{queue}
-use Rattle.up_model.specs.Readings.{goal}
-use Rattle.up_model.specs.Replies.{unanswered, answering_last}
-use Rattle.up_model.specs.Requests.{RequestValue}
-use Rattle.up_model.specs.Seen.{seen, holds, taken, was_offered}
-use Rattle.up_model.specs.Predicates.{is_start, entries_if, or_else}
-use Rattle.up_model.specs.Values.{Bytes, Bindings}
-use Rattle.up_model.specs.Work.{work, settle}
 use Rattle.up_model.proofs.FileLaws.{IsCalled, target-called}
 use Rattle.up_model.proofs.NameLaws.{called}
 use Rattle.up_model.proofs.ReplyLaws.{answering_hurried-all, start_of-all, stop_of-all, stop-all, restart-all}

@@ -1,28 +1,16 @@
 -- A move keeps the rules by which no main is ordered while it lives.
-use Rattle.std.proofs.Common.{◌≡◌, ℕ, Bool, true, false, ◌&&◌, ◌||◌, not, List, [], ◌∷◌, ◌++◌, Option, None, Some}
-use Rattle.std.proofs.Common.{if◌then◌else◌, refl, sym, ◌∙◌, ap, subst, eq-eqb}
-use Rattle.std.specs.List.{AllByRecursion}
-use Rattle.up_conf.specs.declared.job.JobDef.{JobDef}
-use Rattle.up_stanza.specs.declared.process.Process.{Process}
+use Rattle.up_model.proofs.Names.{◌≡◌, ℕ, Bool, true, false, not, List, [], ◌∷◌, ◌++◌, Option, None, Some}
+use Rattle.up_model.proofs.Names.{if◌then◌else◌, refl, sym, ◌∙◌, ap, subst, ◌&&◌, ◌||◌, eq-eqb, AllByRecursion}
+use Rattle.up_model.proofs.Names.{JobDef, Process, JobEvent, Goal, Start, Stop, State, Starting, Stopping, Waiting}
+use Rattle.up_model.proofs.Names.{PostStart, Running, PreStop, Spawned, Killed, Who, Chronicle, Entry, Entered}
+use Rattle.up_model.proofs.Names.{Ordered, Signalled, Configuration, instance_named, Instance, instances_of}
+use Rattle.up_model.proofs.Names.{next_state, entering, wait_in, move_first, has_process, emitting, ordering}
+use Rattle.up_model.proofs.Names.{enter, enter_whole, may_leave, next_of, who_of, move, move_of, move_in, is_over}
+use Rattle.up_model.proofs.Names.{entries_if, or_else, same_process, file_of, goal, state_of, lives, is_awaited}
+use Rattle.up_model.proofs.Names.{releasing, Bytes}
 use Rattle.up_stanza.specs.declared.process.Process.TheVariants as process
 use Rattle.up_model.specs.declared.life.EntryActions as table
-use Rattle.up_model.specs.declared.life.JobEvent.{JobEvent}
-use Rattle.up_model.specs.declared.state.Goal.{Goal}
-use Rattle.up_model.specs.declared.state.Goal.TheVariants.{Start, Stop}
-use Rattle.up_model.specs.declared.state.State.{State}
-use Rattle.up_model.specs.declared.state.State.TheVariants.{Waiting, Starting, PreStart, Spawned, PostStart, Running}
-use Rattle.up_model.specs.declared.state.State.TheVariants.{PreStop, Stopping, Killed, PostStop}
-use Rattle.up_model.specs.declared.who.Who.{Who}
-use Rattle.up_model.specs.Chronicle.{Chronicle, Entry, Entered, Ordered, Signalled}
-use Rattle.up_model.specs.Configuration.{Configuration}
-use Rattle.up_model.specs.Instances.{Instance, instances_of, instance_named}
-use Rattle.up_model.specs.Life.{next_state, wait_in, entering}
-use Rattle.up_model.specs.Moves.{has_process, emitting, ordering, enter, enter_whole, is_over, may_leave, next_of}
-use Rattle.up_model.specs.Moves.{who_of, move, move_of, move_in, move_first}
-use Rattle.up_model.specs.Readings.{goal, state_of, file_of, is_awaited, lives}
-use Rattle.up_model.specs.Replies.{releasing}
-use Rattle.up_model.specs.Predicates.{same_process, entries_if, or_else}
-use Rattle.up_model.specs.Values.{Bytes}
+use Rattle.up_model.specs.declared.state.State.TheVariants.{PreStart, PostStop}
 use Rattle.up_model.proofs.BlockLaws.{five}
 use Rattle.up_model.proofs.FileLaws.{HasFile, files, file_of-later}
 use Rattle.up_model.proofs.NameLaws.{called, made-named, AreSingle}
