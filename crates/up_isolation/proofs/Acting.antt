@@ -1,46 +1,24 @@
 -- A step that is about the job goes on alike in both chronicles.
-use Rattle.std.proofs.Common.{◌≡◌, ℕ, ◌<◌, ◌==◌, ◌⊎◌, inl, inr, Bool, true, false, List, [], ◌∷◌, ◌++◌}
-use Rattle.std.proofs.Common.{Option, None, Some, length, if◌then◌else◌, bytes_eq, refl, sym, ◌∙◌, ap, ap₂}
-use Rattle.std.proofs.Common.{subst, subst₂, arith, eq-eqb, eqb-true}
-use Rattle.std.specs.List.{AllByRecursion}
-use Rattle.up_conf.specs.declared.job.JobDef.{JobDef}
-use Rattle.up_expr.specs.Truth.{Sight}
-use Rattle.up_model.specs.declared.who.Who.{Who}
-use Rattle.up_model.specs.Chronicle.{Chronicle, Entry, Given, Handled, Offered, Fired, Made, Aimed, Entered}
-use Rattle.up_model.specs.Chronicle.{Expression, StartOn, StopOn}
-use Rattle.up_model.specs.Configuration.{Configuration, job_named}
-use Rattle.up_model.specs.Instances.{Instance, instances_of}
-use Rattle.up_model.specs.Readings.{entry_at, event_at}
-use Rattle.up_model.specs.Seen.{seen}
-use Rattle.up_model.specs.Values.{Bytes, Bindings}
-use Rattle.up_model.proofs.FileLaws.{named-name}
-use Rattle.up_model.proofs.Places.{bytes_refl}
-use Rattle.up_isolation.specs.Parts.{content}
-use Rattle.up_isolation.proofs.Twins.{Twins, Match}
-use Rattle.up_isolation.proofs.Known.{IsKnown}
-use Rattle.up_isolation.proofs.Likes.{only, Like}
-use Rattle.up_isolation.proofs.Pairs.{Pair, Carries}
-use Rattle.std.proofs.Common.{append_assoc, not, ◌||◌, zero, suc}
-use Rattle.up_model.specs.Due.{due}
-use Rattle.up_model.specs.Moves.{move, move_first}
-use Rattle.up_model.specs.Offers.{is_newborn, is_open, stop_of, stop_by, stop_offer, start_of, start_who, start_env}
-use Rattle.up_model.specs.Offers.{start_by, who_called, start_offer, offering, offer_first, offer_next}
-use Rattle.up_model.specs.Events.{events_at, events_env, stopped_by}
-use Rattle.up_model.specs.Environments.{env_of_job, instance_name}
-use Rattle.up_model.specs.Files.{names_in_order}
-use Rattle.up_model.specs.Predicates.{entries_if, or_else, is_start}
-use Rattle.up_model.specs.Readings.{event_of, goal}
-use Rattle.up_model.specs.Replies.{releasing, unanswered, answering_hurried, answering_last}
-use Rattle.up_model.specs.Seen.{holds, taken, was_offered}
-use Rattle.up_model.specs.Work.{work, settle}
-use Rattle.up_model.proofs.Sparing.{same-append, all-append, all-if, all-weaker}
-use Rattle.up_model.proofs.ReplyLaws.{releasing-all}
+use Rattle.up_isolation.proofs.Names.{◌≡◌, ℕ, ◌<◌, ◌==◌, ◌||◌, ◌⊎◌, inl, inr, Bool, true, false, List, [], ◌∷◌}
+use Rattle.up_isolation.proofs.Names.{◌++◌, Option, None, Some, length, if◌then◌else◌, bytes_eq, refl, sym, ◌∙◌}
+use Rattle.up_isolation.proofs.Names.{ap, ap₂, subst, arith, not, subst₂, append_assoc, eq-eqb, eqb-true, zero}
+use Rattle.up_isolation.proofs.Names.{suc, AllByRecursion, JobDef, Sight, Who, Chronicle, Entry, Given, Handled}
+use Rattle.up_isolation.proofs.Names.{Offered, Fired, Made, Aimed, Entered, StartOn, StopOn, Expression}
+use Rattle.up_isolation.proofs.Names.{Configuration, job_named, due, env_of_job, instance_name, events_at}
+use Rattle.up_isolation.proofs.Names.{events_env, stopped_by, names_in_order, Instance, instances_of, move}
+use Rattle.up_isolation.proofs.Names.{move_first, stop_of, stop_by, stop_offer, start_of, who_called, start_who}
+use Rattle.up_isolation.proofs.Names.{start_env, start_by, start_offer, is_newborn, is_open, offering, offer_first}
+use Rattle.up_isolation.proofs.Names.{offer_next, is_start, entries_if, or_else, entry_at, event_at, goal}
+use Rattle.up_isolation.proofs.Names.{event_of, releasing, unanswered, answering_hurried, answering_last, seen}
+use Rattle.up_isolation.proofs.Names.{holds, taken, was_offered, Bytes, Bindings, work, settle, named-name}
+use Rattle.up_isolation.proofs.Names.{bytes_refl, releasing-all, same-append, all-append, all-if, all-weaker}
+use Rattle.up_isolation.proofs.Names.{content, content_of}
 use Rattle.up_model.proofs.Settling.{settle_still, settle_enough}
 use Rattle.up_model.proofs.WorkLaws.{falls}
-use Rattle.up_isolation.specs.Parts.{content_of}
-use Rattle.up_isolation.proofs.Twins.{At, twins_map}
-use Rattle.up_isolation.proofs.Known.{known}
-use Rattle.up_isolation.proofs.Likes.{instances-same}
+use Rattle.up_isolation.proofs.Twins.{Twins, Match, At, twins_map}
+use Rattle.up_isolation.proofs.Known.{IsKnown, known}
+use Rattle.up_isolation.proofs.Likes.{only, Like, instances-same}
+use Rattle.up_isolation.proofs.Pairs.{Pair, Carries}
 use Rattle.up_isolation.proofs.Releases.{entry-append}
 use Rattle.up_isolation.proofs.Offering.{pair-at, pair_stop_offer, like_start_offer}
 use Rattle.up_isolation.proofs.Moving.{pair_move}
@@ -50,8 +28,8 @@ use Rattle.up_isolation.proofs.Movers.{Moves, moves-first, move-some, or_else-fi
 use Rattle.up_isolation.proofs.Offers as offers
 use Rattle.up_isolation.proofs.Offers.{Offers, offers-first, offers-shut, Spent, stop-some, start-some}
 use Rattle.up_isolation.proofs.Locals.{NotGiven, IsMoving, moving-given, move-moving, moving-offering}
-use Rattle.up_isolation.proofs.Locals.{moving-offered, moving-open, IsShut, shut-more, silent-more}
-use Rattle.up_isolation.proofs.Locals.{stranges-given, strange-offering, strange-started, strange-open}
+use Rattle.up_isolation.proofs.Locals.{moving-offered, moving-open, IsShut, shut-more, silent-more, stranges-given}
+use Rattle.up_isolation.proofs.Locals.{strange-offering, strange-started, strange-open}
 
 -- the event of this step, in both
 pub record SameEvent (c d : Chronicle) (p q : ℕ) : Type 0 where

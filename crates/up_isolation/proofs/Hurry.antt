@@ -1,59 +1,32 @@
 -- A step of a request that names the job and doesn't wait: its answer comes last, and says the same.
-use Rattle.std.proofs.Common.{◌≡◌, ℕ, ◌<◌, ◌==◌, inl, Bool, true, false, ◌&&◌, List, [], ◌∷◌, ◌++◌, Option, None}
-use Rattle.std.proofs.Common.{Some, length, if◌then◌else◌, refl, sym, ◌∙◌, ap, subst, subst₂, arith, eq-eqb}
-use Rattle.std.proofs.Common.{ne_eqb}
-use Rattle.std.specs.List.{AllByRecursion}
-use Rattle.up_conf.specs.declared.job.JobDef.{JobDef}
-use Rattle.up_stanza.specs.declared.process.Process.{Process}
-use Rattle.up_stanza.specs.declared.process.Process.TheVariants.{Main}
-use Rattle.up_model.specs.declared.request.Answer.{Answer}
-use Rattle.up_model.specs.declared.state.State.{State}
-use Rattle.up_model.specs.declared.who.Who.{Who}
-use Rattle.up_model.specs.Chronicle.{Chronicle, Entry, Given, Queued, Offered, Finished, Aimed, Restarted, Released}
-use Rattle.up_model.specs.Chronicle.{Entered, Ordered, Signalled, Replied, StopOn}
-use Rattle.up_model.specs.Configuration.{Configuration}
-use Rattle.up_model.specs.Instances.{Instance, instances_of}
-use Rattle.up_model.specs.Readings.{entry_at, holders}
-use Rattle.up_model.specs.Replies.{request_at}
-use Rattle.up_model.specs.Values.{Bytes}
-use Rattle.up_model.proofs.NameLaws.{called}
-use Rattle.up_isolation.specs.Views.{was_asked}
-use Rattle.up_isolation.proofs.Twins.{Twins, Match}
-use Rattle.up_isolation.proofs.Known.{IsKnown}
-use Rattle.up_isolation.proofs.Likes.{only, Like}
+use Rattle.up_isolation.proofs.Names.{◌≡◌, ℕ, ◌<◌, ◌==◌, inl, Bool, true, false, List, [], ◌∷◌, ◌++◌, Option, None}
+use Rattle.up_isolation.proofs.Names.{Some, length, if◌then◌else◌, refl, sym, ◌∙◌, ap, subst, arith, ne_eqb, ◌&&◌}
+use Rattle.up_isolation.proofs.Names.{subst₂, nat_lt, eq-eqb, zero, suc, AllByRecursion, JobDef, Process, Main}
+use Rattle.up_isolation.proofs.Names.{JobEvent, Answer, State, Who, Chronicle, Entry, Given, Queued, Offered}
+use Rattle.up_isolation.proofs.Names.{Finished, Aimed, Restarted, Released, Entered, Ordered, Signalled, Replied}
+use Rattle.up_isolation.proofs.Names.{StopOn, Configuration, due, names_in_order, Instance, instances_of, entering}
+use Rattle.up_isolation.proofs.Names.{move, move_first, move_of, may_leave, move_in, has_process, who_of, emitting}
+use Rattle.up_isolation.proofs.Names.{ordering, enter, next_of, offering, offer_next, entries_if, or_else}
+use Rattle.up_isolation.proofs.Names.{entry_at, holders, state_of, lives, request_at, releasing, unanswered}
+use Rattle.up_isolation.proofs.Names.{answering_hurried, answering_last, asked, request_in, unless_answered}
+use Rattle.up_isolation.proofs.Names.{status_of, was_answered, request_instance, answering_one, answering}
+use Rattle.up_isolation.proofs.Names.{RequestValue, Bytes, work, settle, called, same-append, all-append, all-if}
+use Rattle.up_isolation.proofs.Names.{all-weaker, was_asked}
+use Rattle.std.proofs.Common.{ltb-true}
+use Rattle.up_model.specs.declared.life.EntryActions as table
+use Rattle.up_model.specs.Replies.{status_if}
+use Rattle.up_isolation.proofs.Twins.{Twins, Match, At, at-twins}
+use Rattle.up_isolation.proofs.Known.{IsKnown, known}
+use Rattle.up_isolation.proofs.Likes.{only, Like, instances-same, Spares, spares, PassesBy, twin-spared}
 use Rattle.up_isolation.proofs.Pairs.{Guest, Carries, known-one}
-use Rattle.std.proofs.Common.{zero, suc}
-use Rattle.up_model.specs.Due.{due}
-use Rattle.up_model.specs.Files.{names_in_order}
-use Rattle.up_model.specs.Moves.{move, move_first, move_of}
-use Rattle.up_model.specs.Offers.{offering, offer_next}
-use Rattle.up_model.specs.Predicates.{entries_if, or_else}
-use Rattle.up_model.specs.Replies.{releasing, request_in, asked, was_answered, unless_answered, unanswered}
-use Rattle.up_model.specs.Replies.{request_instance, status_if, answering_hurried, answering_last}
-use Rattle.up_model.specs.Work.{work, settle}
-use Rattle.up_model.proofs.Sparing.{same-append, all-append, all-if, all-weaker}
-use Rattle.up_isolation.proofs.Twins.{At, at-twins}
-use Rattle.up_isolation.proofs.Known.{known}
-use Rattle.up_isolation.proofs.Likes.{instances-same}
-use Rattle.up_isolation.proofs.Releases.{entry-append}
+use Rattle.up_isolation.proofs.Releases.{entry-append, status-same}
 use Rattle.up_isolation.proofs.Offering.{pair-at}
 use Rattle.up_isolation.proofs.Moving.{pair_move}
 use Rattle.up_isolation.proofs.Foreign.{IsStrange, AreStrange, strange-foreign, like-strange}
 use Rattle.up_isolation.proofs.Movers as movers
 use Rattle.up_isolation.proofs.Movers.{Moves, moves-first, move-some, or_else-first, or_else-second}
 use Rattle.up_isolation.proofs.Locals.{IsMoving, move-moving, moving-offering}
-use Rattle.std.proofs.Common.{nat_lt, ltb-true}
-use Rattle.up_model.specs.declared.life.EntryActions as table
-use Rattle.up_model.specs.declared.life.JobEvent.{JobEvent}
-use Rattle.up_model.specs.Life.{entering}
-use Rattle.up_model.specs.Moves.{may_leave, move_in, has_process, who_of, emitting, ordering, enter}
-use Rattle.up_model.specs.Moves.{next_of}
-use Rattle.up_model.specs.Readings.{state_of, lives}
-use Rattle.up_model.specs.Replies.{status_of, answering_one, answering}
-use Rattle.up_model.specs.Requests.{RequestValue}
-use Rattle.up_isolation.proofs.Likes.{Spares, spares, PassesBy, twin-spared}
 use Rattle.up_isolation.proofs.Others.{like_replied}
-use Rattle.up_isolation.proofs.Releases.{status-same}
 use Rattle.up_isolation.proofs.Acting.{Plain, None', plain-settle, settle-near}
 
 -- places below one

@@ -1,3 +1,4 @@
+pub mod Names
 pub mod Lives
 pub mod Sights
 pub mod Twins
@@ -21,12 +22,15 @@ pub mod Acting
 pub mod Calm
 pub mod Ends
 pub mod Alone
+pub mod Killing
 pub mod Turning
 pub mod Hurry
 pub mod Requesting
 pub mod Changing
+pub mod Doing
 pub mod Asking
 pub mod Loading
+pub mod Following
 pub mod Runs
 pub mod Telling
 pub mod Stepping

@@ -1,47 +1,30 @@
 -- A chronicle and one of the job alone, in which the job is alike; an entry that isn't about the job leaves
 -- that so.
-use Rattle.std.proofs.Common.{◌≡◌, ℕ, ◌<◌, ◌≤◌, ◌==◌, ◌||◌, ◌⊎◌, inl, inr, Bool, true, false, List, [], ◌∷◌, ◌++◌}
-use Rattle.std.proofs.Common.{Option, None, Some, is_some, length, if◌then◌else◌, bytes_eq, refl, sym, ◌∙◌}
-use Rattle.std.proofs.Common.{ap, ap₂, subst, arith, ne_eqb, append-nil}
-use Rattle.std.specs.List.{AllByRecursion, list_any}
-use Rattle.up_conf.specs.declared.job.JobDef.{JobDef}
-use Rattle.up_expr.specs.Trees.{Tree}
-use Rattle.up_expr.specs.Truth.{Sight}
-use Rattle.up_stanza.specs.declared.process.Process.{Process}
-use Rattle.up_model.specs.declared.event.Event.{Event}
+use Rattle.up_isolation.proofs.Names.{◌≡◌, ℕ, ◌<◌, ◌≤◌, ◌==◌, ◌||◌, ◌⊎◌, inl, inr, Bool, true, false, List, []}
+use Rattle.up_isolation.proofs.Names.{◌∷◌, ◌++◌, Option, None, Some, is_some, length, if◌then◌else◌, bytes_eq}
+use Rattle.up_isolation.proofs.Names.{refl, sym, ◌∙◌, ap, ap₂, subst, arith, ne_eqb, append-nil, not, ◌&&◌}
+use Rattle.up_isolation.proofs.Names.{AllByRecursion, list_any, JobDef, is_filled, Process, Tree, Sight, Event}
+use Rattle.up_isolation.proofs.Names.{Who, Chronicle, Entry, Given, Queued, Handled, Offered, Fired, Finished}
+use Rattle.up_isolation.proofs.Names.{Made, Aimed, Restarted, Released, Failed, Respawned, Entered, Ordered}
+use Rattle.up_isolation.proofs.Names.{Signalled, Replied, Loaded, Entering, Outside, Spoilt, StartOn, StopOn, now}
+use Rattle.up_isolation.proofs.Names.{Configuration, job_named, file_in_force, known_file, start_on_of, Instance}
+use Rattle.up_isolation.proofs.Names.{without_instance, instances_of, instance_named, entry_at, made_at, event_at}
+use Rattle.up_isolation.proofs.Names.{blocker, without, holders, speaks_of, request_at, seen, sight_of, env_of}
+use Rattle.up_isolation.proofs.Names.{Bytes, Bindings, called, Singles, entered-singles, made-singles, bytes_refl}
+use Rattle.up_isolation.proofs.Names.{older-other, names_called, contents, content, items, items_if, hears_event}
+use Rattle.up_isolation.proofs.Names.{Arrived, Unblocked, stands_in, hears, concerns, is_blocked_by, unblocked}
+use Rattle.up_isolation.proofs.Names.{arrivals, is_of, owns, was_asked, jobs_called, deeds}
 use Rattle.up_model.specs.declared.input.Input.TheVariants as input
 use Rattle.up_model.specs.declared.state.State.TheVariants as state
-use Rattle.up_model.specs.declared.who.Who.{Who}
-use Rattle.up_model.specs.Chronicle.{Chronicle, Entry, Given, Queued, Handled, Offered, Fired, Finished, Made}
-use Rattle.up_model.specs.Chronicle.{Aimed, Restarted, Released, Failed, Respawned, Entered, Ordered}
-use Rattle.up_model.specs.Chronicle.{Signalled, Replied, Loaded, Entering, Outside, Spoilt, StartOn, StopOn}
-use Rattle.up_model.specs.Clock.{now}
-use Rattle.up_model.specs.Configuration.{Configuration, job_named}
-use Rattle.up_model.specs.Files.{file_in_force, known_file}
-use Rattle.up_model.specs.Held.{start_on_of}
-use Rattle.up_model.specs.Instances.{Instance, without_instance, instances_of, instance_named}
-use Rattle.up_model.specs.Readings.{entry_at, made_at, event_at, blocker, without, holders, speaks_of}
-use Rattle.up_model.specs.Replies.{request_at}
-use Rattle.up_model.specs.Seen.{seen, sight_of, env_of}
-use Rattle.up_model.specs.Values.{Bytes, Bindings}
 use Rattle.up_model.proofs.FileLaws.{all-weaker}
-use Rattle.up_model.proofs.Places.{bytes_refl, older-other}
-use Rattle.up_model.proofs.NameLaws.{called, Singles, entered-singles, made-singles}
-use Rattle.up_isolation.specs.Views.{Arrived, Unblocked, stands_in, stands_in_stops, hears, concerns}
-use Rattle.up_isolation.specs.Views.{is_blocked_by, unblocked, arrivals, is_of, owns, was_asked, deeds}
+use Rattle.up_isolation.specs.Views.{stands_in_stops}
 use Rattle.up_isolation.specs.Parts as parts
-use Rattle.up_isolation.specs.Parts.{Content, contents, content, Item, items, items_if, hears_event}
-use Rattle.up_isolation.specs.Parts.{owns_expression, noticed}
-use Rattle.up_isolation.proofs.Lives.{Life, life, IsAside, aside, IsOld}
+use Rattle.up_isolation.proofs.Lives.{life, IsAside, aside, IsOld}
 use Rattle.up_isolation.proofs.Lives as lives
 use Rattle.up_isolation.proofs.Sights.{told}
 use Rattle.up_isolation.proofs.Twins.{Twins}
 use Rattle.up_isolation.proofs.Known.{IsKnown, known, AreOlder, contents-later, older-later}
 use Rattle.up_isolation.proofs.Steady.{part}
-use Rattle.up_isolation.specs.Views.{jobs_called}
-use Rattle.up_isolation.specs.Isolation.{names_called}
-use Rattle.std.proofs.Common.{not, ◌&&◌}
-use Rattle.up_text.specs.Scripts.{is_filled}
 
 -- the configuration of the job alone
 abbrev pub only : Bytes → Configuration → Configuration

@@ -1,49 +1,28 @@
 -- Expressions of the job that have seen the same fire alike.
-use Rattle.std.proofs.Common.{◌≡◌, ℕ, ◌<◌, ◌≤◌, inl, inr, Bool, true, false, ◌&&◌, List, [], ◌∷◌, ◌++◌}
-use Rattle.std.proofs.Common.{Option, None, Some, length, if◌then◌else◌, bytes_eq, refl, sym, ◌∙◌, ap, ap₂}
-use Rattle.std.proofs.Common.{subst, subst₂, arith}
-use Rattle.std.specs.List.{AllByRecursion}
-use Rattle.up_conf.specs.declared.job.JobDef.{JobDef}
-use Rattle.up_expr.specs.Truth.{Sight}
-use Rattle.up_model.specs.declared.event.Event.{Event}
-use Rattle.up_model.specs.declared.who.Who.{Who}
-use Rattle.up_model.specs.Chronicle.{Chronicle, Entry, Queued, Offered, Fired, Made, Aimed, StartOn, StopOn}
-use Rattle.up_model.specs.Configuration.{Configuration, job_named}
-use Rattle.up_model.specs.Instances.{Instance, instances_of}
-use Rattle.up_model.specs.Readings.{entry_at, event_at}
-use Rattle.up_model.specs.Seen.{seen}
-use Rattle.up_model.specs.Values.{Bytes, Bindings}
-use Rattle.up_model.proofs.NameLaws.{called}
-use Rattle.up_isolation.specs.Parts.{Content, contents, content}
+use Rattle.up_isolation.proofs.Names.{◌≡◌, ℕ, ◌<◌, ◌≤◌, inl, inr, Bool, true, false, List, [], ◌∷◌, ◌++◌, Option}
+use Rattle.up_isolation.proofs.Names.{None, Some, length, if◌then◌else◌, bytes_eq, refl, sym, ◌∙◌, ap, ap₂, subst}
+use Rattle.up_isolation.proofs.Names.{arith, not, ◌&&◌, subst₂, append_assoc, nat_lt, option_to_list}
+use Rattle.up_isolation.proofs.Names.{AllByRecursion, JobDef, matches, Tree, One, Both, Either, Sight, Leaf, Event}
+use Rattle.up_isolation.proofs.Names.{Start, Stop, Who, Chronicle, Entry, Queued, Offered, Fired, Made, Aimed}
+use Rattle.up_isolation.proofs.Names.{StartOn, StopOn, Configuration, job_named, env_by_job, env_of_job}
+use Rattle.up_isolation.proofs.Names.{start_base, instance_name, events_at, events_env, with_instance, stopped_by}
+use Rattle.up_isolation.proofs.Names.{own_file, start_on_of, Instance, instances_of, instance_named, place_named}
+use Rattle.up_isolation.proofs.Names.{stop_of, stop_by, stop_offer, max_instances, start_of, who_called, start_who}
+use Rattle.up_isolation.proofs.Names.{start_env, start_by, start_offer, is_start, entries_if, entry_at, event_at}
+use Rattle.up_isolation.proofs.Names.{goal, event_of, releasing, seen, holds, taken, Bytes, Bindings, called}
+use Rattle.up_isolation.proofs.Names.{count, contents, content, Content, content_of}
+use Rattle.up_expr.specs.Truth as truth
+use Rattle.up_model.specs.Files.{file_at, start_file_at, start_file}
+use Rattle.up_model.proofs.Places.{all_instances-once, instances-exist}
+use Rattle.up_isolation.specs.Parts.{AnEvent}
 use Rattle.up_isolation.proofs.Lives.{Life}
-use Rattle.up_isolation.proofs.Sights.{told}
-use Rattle.up_isolation.proofs.Twins.{Twins}
-use Rattle.up_isolation.proofs.Known.{IsKnown, AreOlder, contents-later, older-later}
+use Rattle.up_isolation.proofs.Sights.{told, AreKnown, event_of_sight, first_event, taken_events, holds-told}
+use Rattle.up_isolation.proofs.Sights.{taken-told, taken-known}
+use Rattle.up_isolation.proofs.Twins.{Twins, At, at-twins, matched, twins_map}
+use Rattle.up_isolation.proofs.Known.{IsKnown, AreOlder, contents-later, older-later, known, seen-known}
+use Rattle.up_isolation.proofs.Known.{known-sights-later, entry-older}
 use Rattle.up_isolation.proofs.Likes.{only, named-only, Twin, Like}
 use Rattle.up_isolation.proofs.Pairs.{Pair, Carries, carries-none}
-use Rattle.std.proofs.Common.{append_assoc, not, nat_lt, option_to_list}
-use Rattle.up_expr.specs.declared.expr.Leaf.{Leaf}
-use Rattle.up_expr.specs.Matching.{matches}
-use Rattle.up_expr.specs.Trees.{Tree, One, Both, Either}
-use Rattle.up_expr.specs.Truth as truth
-use Rattle.up_model.specs.declared.state.Goal.TheVariants.{Start, Stop}
-use Rattle.up_model.specs.Environments.{env_by_job, env_of_job, start_base, instance_name}
-use Rattle.up_model.specs.Events.{events_at, events_env, with_instance, stopped_by}
-use Rattle.up_model.specs.Files.{file_at, own_file, start_file_at, start_file}
-use Rattle.up_model.specs.Held.{start_on_of}
-use Rattle.up_model.specs.Instances.{place_named, instance_named}
-use Rattle.up_model.specs.Offers.{stop_of, stop_by, stop_offer, max_instances, start_of, who_called}
-use Rattle.up_model.specs.Offers.{start_who, start_env, start_by, start_offer}
-use Rattle.up_model.specs.Predicates.{is_start, entries_if}
-use Rattle.up_model.specs.Readings.{goal, event_of}
-use Rattle.up_model.specs.Replies.{releasing}
-use Rattle.up_model.specs.Seen.{holds, taken}
-use Rattle.up_model.proofs.Places.{count, all_instances-once, instances-exist}
-use Rattle.up_isolation.specs.Parts.{content_of, AnEvent}
-use Rattle.up_isolation.proofs.Sights.{AreKnown, event_of_sight, first_event, taken_events}
-use Rattle.up_isolation.proofs.Sights.{holds-told, taken-told, taken-known}
-use Rattle.up_isolation.proofs.Twins.{At, at-twins, matched, twins_map}
-use Rattle.up_isolation.proofs.Known.{known, seen-known, known-sights-later, entry-older}
 use Rattle.up_isolation.proofs.Others.{like_offered, like_fired, pair_offered, pair_fired, env-only}
 use Rattle.up_isolation.proofs.Entries.{pair_aimed}
 use Rattle.up_isolation.proofs.Making.{instance-at, pair_made}

@@ -1,43 +1,30 @@
 -- An instance waits for an event of its own in starting and stopping alone, and does nothing before that has finished.
-use Rattle.std.proofs.Common.{◌≡◌, ℕ, zero, suc, ◌==◌, Bool, true, false, ◌&&◌, not, nat_lt, List, [], ◌∷◌, ◌++◌, length, filter, Option, None, Some, is_some, if◌then◌else◌, refl, sym, ◌∙◌, ap, subst, eqb-true, eq-eqb, append_assoc}
-use Rattle.std.specs.List.{AllByRecursion}
-use Rattle.up_expr.specs.Truth.{Sight}
-use Rattle.up_conf.specs.declared.job.JobDef.{JobDef}
-use Rattle.up_stanza.specs.declared.process.Process.{Process}
-use Rattle.up_stanza.specs.declared.process.Process.TheVariants.{Main}
+use Rattle.up_model.proofs.Names.{◌≡◌, ℕ, zero, suc, ◌==◌, Bool, true, false, not, List, [], ◌∷◌, ◌++◌, length}
+use Rattle.up_model.proofs.Names.{Option, None, Some, is_some, if◌then◌else◌, refl, sym, ◌∙◌, ap, subst}
+use Rattle.up_model.proofs.Names.{append_assoc, ◌&&◌, eq-eqb, nat_lt, eqb-true, filter, AllByRecursion, JobDef}
+use Rattle.up_model.proofs.Names.{Process, Main, Sight, Event, Input, JobEvent, Start, State, Starting, Stopping}
+use Rattle.up_model.proofs.Names.{Who, next, after, is_expected, after_all, Chronicle, Entry, Given, Queued}
+use Rattle.up_model.proofs.Names.{Finished, Made, Aimed, Entered, Ordered, Signalled, Outside, Entering, Spoilt}
+use Rattle.up_model.proofs.Names.{Offered, Fired, StartOn, StopOn, all_overdue, kill, killing, outcome_of}
+use Rattle.up_model.proofs.Names.{entries_of, is_running, Configuration, turn_event, turn_of, end_by, due, effect}
+use Rattle.up_model.proofs.Names.{env_of_job, instance_name, events_at, events_env, with_instance, stopped_by}
+use Rattle.up_model.proofs.Names.{own_file, names_in_order, instance_named, Instance, instances_of, entering}
+use Rattle.up_model.proofs.Names.{wait_in, in_force, loading, move_first, has_process, emitting, ordering, enter}
+use Rattle.up_model.proofs.Names.{enter_whole, may_leave, next_of, who_of, move, move_of, move_in, is_over}
+use Rattle.up_model.proofs.Names.{offering, offer_next, is_open, stop_of, stop_by, stop_offer, stop_offer_in}
+use Rattle.up_model.proofs.Names.{max_instances, start_of, who_called, start_who, start_by, start_offer, start_env}
+use Rattle.up_model.proofs.Names.{is_start, entries_if, or_else, queue, goal, state_of, blocker, holders}
+use Rattle.up_model.proofs.Names.{is_blocking, lives, releasing, unanswered, answering_last, seen, holds, taken}
+use Rattle.up_model.proofs.Names.{was_offered, Bindings, Bytes, work, settle}
 use Rattle.up_model.specs.declared.failure.End.TheVariants as end
-use Rattle.up_model.specs.declared.event.Event.{Event}
-use Rattle.up_model.specs.declared.input.Input.{Input}
 use Rattle.up_model.specs.declared.input.Input.TheVariants as input
 use Rattle.up_model.specs.declared.life.EntryActions as table
-use Rattle.up_model.specs.declared.life.JobEvent.{JobEvent}
-use Rattle.up_model.specs.declared.state.Goal.TheVariants.{Start}
-use Rattle.up_model.specs.declared.state.State.{State}
-use Rattle.up_model.specs.declared.state.State.TheVariants.{Starting, Stopping}
-use Rattle.up_model.specs.declared.who.Who.{Who}
-use Rattle.up_model.specs.Answers.{after, next, is_expected, after_all}
 use Rattle.up_model.specs.Blocks.{ActsUnblocked, unfinished}
-use Rattle.up_model.specs.Chronicle.{Chronicle, Entry, Given, Queued, Offered, Fired, Finished, Made, Aimed, Entered, Ordered, Signalled, Outside, Entering, Spoilt, StartOn, StopOn}
-use Rattle.up_model.specs.Clock.{is_killed, kill_due, overdue, all_overdue, has_passed, kill_moment, now, milliseconds, kill, killing}
-use Rattle.up_model.specs.Configuration.{Configuration}
-use Rattle.up_model.specs.Due.{due, turn_event, turn_of, effect, end_by}
-use Rattle.up_model.specs.Environments.{env_of_job, instance_name}
-use Rattle.up_model.specs.Events.{events_at, events_env, with_instance, stopped_by}
-use Rattle.up_model.specs.Instances.{Instance, instances_of, instance_named}
-use Rattle.up_model.specs.Life.{wait_in, entering}
-use Rattle.up_model.specs.Loads.{in_force, loading}
-use Rattle.up_model.specs.Moves.{has_process, job_event, emitting, ordering, enter, enter_whole, is_over, may_leave, next_of, who_of, move, move_of, move_in, move_first}
-use Rattle.up_model.specs.Offers.{is_open, stop_of, stop_by, stop_offer, stop_offer_in, max_instances, start_of, who_called, start_who, start_by, start_offer, offering, offer_next, start_env}
-use Rattle.up_model.specs.Queue.{queue}
-use Rattle.up_model.specs.Readings.{goal, state_of, holders, is_blocking, without, blocker, lives}
-use Rattle.up_model.specs.Commands.{outcome_of, entries_of, is_running}
-use Rattle.up_model.specs.Files.{own_file, names_in_order}
-use Rattle.up_model.specs.Replies.{releasing, unanswered, answering_last}
-use Rattle.up_model.specs.Seen.{seen, holds, taken, was_offered}
-use Rattle.up_model.specs.Predicates.{is_start, entries_if, or_else}
-use Rattle.up_model.specs.Values.{Bindings, Bytes}
-use Rattle.up_model.specs.Work.{work, settle}
-use Rattle.up_model.proofs.ReplyLaws.{Allows, releasing-all, answering_hurried-all, start_of-all, stop_of-all, outcome-all}
+use Rattle.up_model.specs.Clock.{is_killed, kill_due, overdue, has_passed, kill_moment, now, milliseconds}
+use Rattle.up_model.specs.Moves.{job_event}
+use Rattle.up_model.specs.Readings.{without}
+use Rattle.up_model.proofs.ReplyLaws.{Allows, releasing-all, answering_hurried-all, start_of-all, stop_of-all}
+use Rattle.up_model.proofs.ReplyLaws.{outcome-all}
 use Rattle.up_model.proofs.Sparing.{all-append, all-if}
 use Rattle.up_model.proofs.EffectLaws.{AllowsEnds, AllowsTurns, end_of-all, turn_of-all, loading-all}
 use Rattle.up_model.proofs.JobOffers.{offer_in, offer_first, first-by-jobs}

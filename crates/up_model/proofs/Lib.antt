@@ -1,3 +1,4 @@
+pub mod Names
 pub mod Places
 pub mod Sparing
 pub mod ReplyLaws
@@ -16,7 +17,10 @@ pub mod NameLaws
 pub mod FileLaws
 pub mod MadeLaws
 pub mod JobOffers
+pub mod MainEntries
+pub mod MainMoves
 pub mod MainLaws
 pub mod LeftSums
+pub mod LeftMoves
 pub mod LeftLaws
 pub mod CommandLaws

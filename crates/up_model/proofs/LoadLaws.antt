@@ -1,43 +1,34 @@
 -- Loads: which configuration is in force along a run, which jobs a load leaves in force, and that nothing is due after one.
-use Rattle.std.proofs.Common.{◌≡◌, ◌⊎◌, inl, inr, ℕ, zero, suc, Bool, true, false, not, ◌&&◌, List, [], ◌∷◌, ◌++◌, Option, None, Some, is_some, filter, map, length, if◌then◌else◌, bytes_eq, refl, sym, ◌∙◌, ap, subst}
-use Rattle.std.specs.List.{AllByRecursion}
+use Rattle.up_model.proofs.Names.{◌≡◌, ℕ, zero, suc, ◌⊎◌, inl, inr, Bool, true, false, not, List, [], ◌∷◌, ◌++◌}
+use Rattle.up_model.proofs.Names.{length, Option, None, Some, is_some, if◌then◌else◌, refl, sym, ◌∙◌, ap, subst}
+use Rattle.up_model.proofs.Names.{◌&&◌, bytes_eq, filter, AllByRecursion, JobDef, is_filled, Main, Input, State}
+use Rattle.up_model.proofs.Names.{after, Chronicle, Entry, Given, Entered, Signalled, Replied, Loaded, Offered}
+use Rattle.up_model.proofs.Names.{Fired, StopOn, Configuration, job_named, due, effect, job_names, Instance}
+use Rattle.up_model.proofs.Names.{instances_of, entering, wait_in, in_force, loading, move_first, emitting}
+use Rattle.up_model.proofs.Names.{ordering, enter, enter_whole, may_leave, next_of, who_of, move, move_of, move_in}
+use Rattle.up_model.proofs.Names.{is_over, offering, offer_next, entries_if, or_else, state_of, lives, releasing}
+use Rattle.up_model.proofs.Names.{answering_last, seen, Bytes, work, settle}
+use Rattle.std.proofs.Common.{map}
 use Rattle.std.specs.Ordering.{is_lt, nat_cmp}
 use Rattle.std.specs.declared.cmp.Ordering.{Ordering}
 use Rattle.std.specs.declared.cmp.Ordering.TheVariants.{Less, Equal, Greater}
 use Rattle.std.specs.Cmp.Lexicographic.{slice_cmp}
 use Rattle.std.proofs.lemmas.Cmp.{nat_list_cmp_total}
-use Rattle.up_conf.specs.declared.job.JobDef.{JobDef}
 use Rattle.up_conf.specs.Order.{is_below, put_by, sort_by_order}
-use Rattle.up_image.proofs.PlaceOrder.{below_not_same, above}
-use Rattle.up_text.specs.Scripts.{is_filled}
-use Rattle.up_model.specs.declared.input.Input.{Input}
 use Rattle.up_model.specs.declared.input.Input.TheVariants as input
 use Rattle.up_model.specs.declared.loaded.Loaded.{Loaded as LoadedValue}
 use Rattle.up_model.specs.declared.loaded.Loaded.TheVariants as loaded
 use Rattle.up_model.specs.declared.life.EntryActions as table
-use Rattle.up_model.specs.declared.state.State.{State}
-use Rattle.up_stanza.specs.declared.process.Process.TheVariants.{Main}
-use Rattle.up_model.specs.Answers.{after}
-use Rattle.up_model.specs.Chronicle.{Chronicle, Entry, Given, Offered, Fired, Entered, Signalled, Loaded, Replied, StopOn}
-use Rattle.up_model.specs.Configuration.{Configuration, job_named}
-use Rattle.up_model.specs.Due.{due, effect}
-use Rattle.up_model.specs.Files.{job_names}
-use Rattle.up_model.specs.Instances.{Instance, instances_of}
-use Rattle.up_model.specs.Life.{Wait, ForStart, wait_in, entering}
-use Rattle.up_model.specs.Loads.{goes_on, going_on, with_jobs, without_start, in_force, loading}
-use Rattle.up_model.specs.Moves.{ordering, emitting, enter, enter_whole, is_over, may_leave, next_of, who_of, move, move_of, move_in, move_first}
-use Rattle.up_model.specs.Offers.{offering, offer_next}
-use Rattle.up_model.specs.Predicates.{entries_if, or_else}
-use Rattle.up_model.specs.Readings.{state_of, event_at, env, lives}
-use Rattle.up_model.specs.Replies.{releasing, answering_last}
-use Rattle.up_model.specs.Seen.{same_expression, sight_of, seen}
-use Rattle.up_model.specs.Values.{Bytes}
-use Rattle.up_model.specs.Work.{work, settle}
+use Rattle.up_model.specs.Life.{Wait, ForStart}
+use Rattle.up_model.specs.Loads.{goes_on, going_on, with_jobs, without_start}
+use Rattle.up_model.specs.Readings.{event_at, env}
+use Rattle.up_model.specs.Seen.{same_expression, sight_of}
 use Rattle.up_model.proofs.EffectLaws.{effect-all, AllowsTurns}
 use Rattle.up_model.proofs.JobOffers.{or-parts}
 use Rattle.up_model.proofs.Places.{bytes_same, bytes_refl}
 use Rattle.up_model.proofs.Sparing.{same-append, all-weaker, IsOf}
 use Rattle.up_model.proofs.WorkLaws.{IsAbout, due-about}
+use Rattle.up_image.proofs.PlaceOrder.{below_not_same, above}
 
 -- The configuration in force.
 

@@ -1,16 +1,10 @@
 -- Each instance of a run is of a job that is named.
-use Rattle.std.proofs.Common.{◌≡◌, ℕ, zero, suc, Bool, true, false, not, nat_lt, List, [], ◌∷◌, ◌++◌, length, codes, if◌then◌else◌, Option, None, Some, is_some, bytes_eq, refl, sym, ◌∙◌, ap, subst, append_assoc}
+use Rattle.std.proofs.Common.{◌≡◌, ℕ, zero, suc, Bool, true, false, not, nat_lt, List, [], ◌∷◌, ◌++◌, length, codes, if◌then◌else◌, Option, None, Some, bytes_eq, refl, sym, ◌∙◌, ap, subst, append_assoc}
 use Rattle.std.specs.List.{AllByRecursion}
 use Rattle.up_conf.specs.declared.job.JobDef.{JobDef}
 use Rattle.up_expr.specs.Truth.{Sight}
-use Rattle.up_stanza.specs.declared.process.Process.{Process}
 use Rattle.up_text.specs.Expansion.{Expansion, Expands, Lacks, Malformed}
-use Rattle.up_model.specs.declared.event.Event.{Event}
-use Rattle.up_model.specs.declared.failure.End.{End}
 use Rattle.up_model.specs.declared.failure.End.TheVariants as end
-use Rattle.up_model.specs.declared.failure.Failure.{Failure}
-use Rattle.up_model.specs.declared.failure.Verdict.{Verdict}
-use Rattle.up_model.specs.declared.failure.Verdict.TheVariants as verdict
 use Rattle.up_model.specs.declared.input.Input.{Input}
 use Rattle.up_model.specs.declared.input.Input.TheVariants as input
 use Rattle.up_model.specs.declared.loaded.Loaded.{Loaded as LoadedValue}
@@ -21,25 +15,23 @@ use Rattle.up_model.specs.declared.state.Goal.TheVariants.{Start}
 use Rattle.up_model.specs.declared.state.State.TheVariants as state
 use Rattle.up_model.specs.declared.who.Who.{Who}
 use Rattle.up_model.specs.Answers.{after, next, is_expected, after_all}
-use Rattle.up_model.specs.Chronicle.{Chronicle, Entry, Given, Handled, Offered, Fired, Finished, Made, Aimed, Entered, StartOn, StopOn}
-use Rattle.up_model.specs.Clock.{all_overdue, kill, killing}
+use Rattle.up_model.specs.Chronicle.{Chronicle, Entry, Given, Offered, Fired, Made, Aimed, Entered, StartOn, StopOn}
+use Rattle.up_model.specs.Clock.{all_overdue, killing}
 use Rattle.up_model.specs.Commands.{Target, Nobody, Concerns, target_as, target_in, target_of, known_target, start, start_at, outcome_by, outcome_of, entries_of, holders_of, refusal, Refused, Done}
 use Rattle.up_model.specs.Configuration.{Configuration, job_named, is_removed}
-use Rattle.up_model.specs.Due.{due, end_of, end_by, telling, failed_event_of, finishing, turn_of, turn_event, effect}
+use Rattle.up_model.specs.Due.{due, end_by, turn_of, turn_event, effect}
 use Rattle.up_model.specs.Events.{events_at, events_env, with_instance, stopped_by}
 use Rattle.up_model.specs.Environments.{env_of_job, instance_name}
-use Rattle.up_model.specs.Files.{own_file, file_in_force, names_in_order}
-use Rattle.up_model.specs.Held.{is_spoilt}
+use Rattle.up_model.specs.Files.{own_file, names_in_order}
 use Rattle.up_model.specs.Instances.{Instance, without_instance, instances_of, instance_named}
 use Rattle.up_model.specs.Instances as instances
-use Rattle.up_model.specs.Judgement.{end_itself, keep_failure, fail, carry_out, verdict_on_end}
 use Rattle.up_model.specs.Life.{entering}
 use Rattle.up_model.specs.Moves.{may_leave, next_of, who_of, move, move_of, move_in, move_first}
 use Rattle.up_model.specs.Offers.{is_open, stop_of, stop_by, stop_offer, stop_offer_in, start_of, start_who, start_by, start_env, who_called, start_offer, start_offer_by, offer_in, offer_first, offer_next, offering, max_instances}
 use Rattle.up_model.specs.Predicates.{is_start, entries_if, or_else}
-use Rattle.up_model.specs.Queue.{Live, queue}
-use Rattle.up_model.specs.Readings.{goal, state_of, failure, holders}
-use Rattle.up_model.specs.Replies.{releasing, waiter, answering_waiter, answering_last, unanswered}
+use Rattle.up_model.specs.Queue.{queue}
+use Rattle.up_model.specs.Readings.{goal, state_of}
+use Rattle.up_model.specs.Replies.{answering_last, unanswered}
 use Rattle.up_model.specs.Requests.{RequestValue}
 use Rattle.up_model.specs.Seen.{seen, holds, taken, was_offered}
 use Rattle.up_model.specs.Values.{Bytes, Bindings}
@@ -50,7 +42,7 @@ use Rattle.up_model.proofs.FileLaws.{named-again}
 use Rattle.up_model.proofs.LoadLaws.{HaveJobs, have-kept, effect-in_force, settle-in_force}
 use Rattle.up_model.proofs.Places.{bytes_same}
 use Rattle.up_model.proofs.MoveLaws.{IsMove, enter-moves}
-use Rattle.up_model.proofs.ReplyLaws.{Allows, releasing-all, answering_waiter-all, answering_hurried-all, start_of-all, stop_of-all, stop-all, restart-all, reload-all, status-all, emit-all}
+use Rattle.up_model.proofs.ReplyLaws.{Allows, answering_hurried-all, start_of-all, stop_of-all, stop-all, restart-all, reload-all, status-all, emit-all}
 use Rattle.up_model.proofs.Sparing.{all-append, all-if, all-weaker}
 
 -- an entry that makes no instance
