@@ -13,6 +13,7 @@ use Rattle.up_text.specs.Tokens.{Mark, Part, Quoting, Folded, Alone, Blank, Pass
 use Rattle.up_text.specs.Places.{Place, is_space, command_bytes, fault_in}
 use Rattle.up_text.specs.Commands.{command_marks_at, trim_blanks, command_in}
 use Rattle.up_image.specs.Definable.{is_token_byte, is_command}
+use Rattle.up_image.proofs.Bounds.{max_text}
 use Rattle.up_image.proofs.Thinning.{told_text, told_bytes, told_short}
 use Rattle.up_image.proofs.Spelling.{Good}
 use Rattle.up_image.proofs.Rereading.{goes_on, is_quoted, Follows, front_marks, told}
@@ -117,7 +118,7 @@ read_again ms follows starts ends =
 pub record CommandGood (text : List ℕ) : Type 0 where
   pub utf8 : IsUtf8 text
   pub bytes : list_all is_token_byte text ≡ true
-  pub short : length text ≤ 1048576
+  pub short : length text ≤ max_text
   pub again : is_command text ≡ true
   pub ms : List Mark
   pub follows : Follows (Outside false) ms

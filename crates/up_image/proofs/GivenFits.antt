@@ -24,6 +24,7 @@ use Rattle.up_image.specs.Compiling.{has_twice, read_paths}
 use Rattle.up_image.specs.Definable.{are_ascending, are_apart, are_exits, are_leaves, are_definable, can_await, is_definable, can_export, can_run, can_set, has_events, has_lists, has_numbers, has_processes, has_texts, is_exit, is_node, is_setting, is_shallow, is_test, is_word}
 use Rattle.up_image.specs.Image.{body_of, fits, fits_action, fits_condition, fits_lists, fits_node, fits_numbers, fits_processes, has_image, is_countable, is_short}
 use Rattle.up_image.specs.declared.version.Version.TheVariants.{Two}
+use Rattle.up_image.specs.declared.limits.TheConstants.{MAX_COUNT, MAX_IMAGE, MAX_ITEMS}
 use Rattle.up_image.proofs.Fitting.{leaves_given}
 use Rattle.up_image.proofs.GivenJobs.{folder_given}
 
@@ -82,16 +83,16 @@ codes_small (x ∷ xs) q all is =
 exits_fit : (xs : List Exit) → are_exits xs ≡ true → is_countable xs ≡ true
 exits_fit xs is =
     let parts = and_parts (list_all is_exit xs) (are_apart xs) is in
-    le-leb (length xs) 65535
+    le-leb (length xs) MAX_ITEMS
     (omega (arith, length-map xs code, length-le_from_distinct_below (map code xs) 288 (codes_distinct xs parts.0 parts.1) (λ q found. codes_small xs q parts.0 found)))
 
 numbers_fit : (job : JobDef) → has_numbers job ≡ true → fits_numbers Two job ≡ true
 numbers_fit job is =
-    let end = and_parts (nat_le job.limit.count 65535 && nat_le job.limit.interval 2147483647 && is_signal job.kill_signal && nat_le job.kill_timeout 2147483647) (is_signal job.reload_signal) is in
-    let last = and_parts (nat_le job.limit.count 65535 && nat_le job.limit.interval 2147483647 && is_signal job.kill_signal) (nat_le job.kill_timeout 2147483647) end.0 in
-    let front = and_parts (nat_le job.limit.count 65535 && nat_le job.limit.interval 2147483647) (is_signal job.kill_signal) last.0 in
-    let limit = and_parts (nat_le job.limit.count 65535) (nat_le job.limit.interval 2147483647) front.0 in
-    and_from _ _ (and_from _ _ (and_from _ _ (le_more job.limit.count 65535 4294967295 limit.0 (omega arith)) (le_more job.limit.interval 2147483647 4294967295 limit.1 (omega arith))) refl)
+    let end = and_parts (nat_le job.limit.count MAX_COUNT && nat_le job.limit.interval 2147483647 && is_signal job.kill_signal && nat_le job.kill_timeout 2147483647) (is_signal job.reload_signal) is in
+    let last = and_parts (nat_le job.limit.count MAX_COUNT && nat_le job.limit.interval 2147483647 && is_signal job.kill_signal) (nat_le job.kill_timeout 2147483647) end.0 in
+    let front = and_parts (nat_le job.limit.count MAX_COUNT && nat_le job.limit.interval 2147483647) (is_signal job.kill_signal) last.0 in
+    let limit = and_parts (nat_le job.limit.count MAX_COUNT) (nat_le job.limit.interval 2147483647) front.0 in
+    and_from _ _ (and_from _ _ (and_from _ _ (le_more job.limit.count MAX_COUNT 4294967295 limit.0 (omega arith)) (le_more job.limit.interval 2147483647 4294967295 limit.1 (omega arith))) refl)
     (le_more job.kill_timeout 2147483647 4294967295 last.1 (omega arith))
 
 lists_fit : (job : JobDef) → has_lists job ≡ true → fits_lists job ≡ true
@@ -100,13 +101,13 @@ lists_fit job is =
     let front = and_parts (can_set job.env) (can_export job.export) last.0 in
     let set = and_parts (nat_le (length job.env) 60000 && list_all is_setting job.env) _ front.0 in
     let exports = and_parts (nat_le (length job.export) 60000 && list_all _ job.export) _ front.1 in
-    and_from _ _ (and_from _ _ (le_more (length job.env) 60000 65535 (and_parts (nat_le (length job.env) 60000) _ set.0).0 (omega arith))
-    (le_more (length job.export) 60000 65535 (and_parts (nat_le (length job.export) 60000) _ exports.0).0 (omega arith)))
+    and_from _ _ (and_from _ _ (le_more (length job.env) 60000 MAX_ITEMS (and_parts (nat_le (length job.env) 60000) _ set.0).0 (omega arith))
+    (le_more (length job.export) 60000 MAX_ITEMS (and_parts (nat_le (length job.export) 60000) _ exports.0).0 (omega arith)))
     (exits_fit job.normal last.1)
 
 action_fits : (action : Option Action) → can_run action ≡ true → fits_action action ≡ true
 action_fits None is = refl
-action_fits (Some (Words words)) is = (and_parts (is_filled words) (nat_le (length words) 65535) (and_parts (is_filled words && nat_le (length words) 65535) (list_all is_word words) is).0).1
+action_fits (Some (Words words)) is = (and_parts (is_filled words) (nat_le (length words) MAX_ITEMS) (and_parts (is_filled words && nat_le (length words) MAX_ITEMS) (list_all is_word words) is).0).1
 action_fits (Some (Shell text)) is = refl
 
 processes_fit : (job : JobDef) → has_processes job ≡ true → fits_processes job ≡ true
@@ -160,6 +161,6 @@ files_fit files apart =
 
 -- so they have an image exactly if that isn't too long
 pub large_alone : (files : List File) → has_twice (read_paths files) ≡ false → nat_le (length (jobs_of files)) 1024 ≡ true
-    → has_image (jobs_of files) ≡ nat_le (12 + length (body_of Two (jobs_of files))) 16777216
+    → has_image (jobs_of files) ≡ nat_le (12 + length (body_of Two (jobs_of files))) MAX_IMAGE
 unfolding has_image
 large_alone files apart few = rw (few, files_fit files apart) refl

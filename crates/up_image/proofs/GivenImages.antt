@@ -10,6 +10,7 @@ use Rattle.up_image.specs.Definable.{are_definable}
 use Rattle.up_image.specs.Image.{IsImage, body_of, head_of}
 use Rattle.up_image.specs.Reading.{ReadsImage, claimed_length, head_error, version_at}
 use Rattle.up_image.specs.declared.version.Version.TheVariants.{Two}
+use Rattle.up_image.specs.declared.limits.TheConstants.{MAX_IMAGE}
 use Rattle.up_image.proofs.Images.{has_it, image_long, says_version}
 use Rattle.up_image.proofs.Tables.{same_jobs}
 
@@ -18,7 +19,7 @@ use Rattle.up_image.proofs.Tables.{same_jobs}
 head_mark : (jobs long : ℕ) (body : List ℕ) → take 4 (head_of Two jobs long ++ body) ≡ codes "UPTB"
 head_mark jobs long body = refl
 
-head_long : (jobs long : ℕ) (body : List ℕ) → long ≤ 16777216 → big_number 4 (drop 8 (head_of Two jobs long ++ body)) ≡ long
+head_long : (jobs long : ℕ) (body : List ℕ) → long ≤ MAX_IMAGE → big_number 4 (drop 8 (head_of Two jobs long ++ body)) ≡ long
 head_long jobs long body small = big_number-reads_back 4 long body (omega (arith, small))
 
 none_by : (mark short other over under : Bool) → mark ≡ true → short ≡ false → other ≡ false → over ≡ false → under ≡ false

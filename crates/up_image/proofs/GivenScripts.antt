@@ -12,6 +12,7 @@ use Rattle.up_text.specs.Scripts.{lines_of, script_in, is_end_line}
 use Rattle.up_text.specs.Tokens.{is_line_feed, is_blank}
 use Rattle.up_stanza.specs.declared.action.Action.TheVariants.{Shell}
 use Rattle.up_image.specs.Definable.{is_script, are_lines, can_run}
+use Rattle.up_image.specs.declared.limits.TheConstants.{MAX_IMAGE}
 use Rattle.up_image.proofs.Thinning.{before_cut, after_cut, push_text}
 use Rattle.up_image.proofs.Spelling.{Good, good_rest, feed_low}
 
@@ -195,6 +196,6 @@ script_good text script good is =
     let size : length (front ++ script.1) ≡ length front + length script.1 = length-append front script.1 in
     let left : drop (length front + length script.1) text ≡ concat found.more = ap (drop (length front + length script.1)) (split ∙ sym (append_assoc front script.1 (concat found.more))) ∙ drop_at (front ++ script.1) (concat found.more) (length front + length script.1) size in
     let clean : is_value front ≡ true = clean_front front rest (ap (list_any (λ byte. byte == 0)) (sym split) ∙ good.clean) in (
-      and_from _ _ (and_from _ _ (and_from _ _ (le-leb (length front) 16777216 (omega (arith, good.short, long))) (is_utf8-from_IsUtf8 front cut.0)) clean) (or_left _ _ (script_is script.0 found.lines found.goes_on)),
+      and_from _ _ (and_from _ _ (and_from _ _ (le-leb (length front) MAX_IMAGE (omega (arith, good.short, long))) (is_utf8-from_IsUtf8 front cut.0)) clean) (or_left _ _ (script_is script.0 found.lines found.goes_on)),
       good_rest text (length front + length script.1) good (subst IsUtf8 (sym left) (tail_cut script.1 found.more found.tail cut.1)),
     )

@@ -32,6 +32,8 @@ use Rattle.up_stanza.specs.Signals.{is_signal, signal_in, signal_named, without_
 use Rattle.up_stanza.proofs.Backward.{mapped, chosen}
 use Rattle.up_stanza.proofs.Signals.{signal_numbers}
 use Rattle.up_image.specs.Definable.{is_token, is_setting, is_value_token, is_exit, can_run, can_await}
+use Rattle.up_image.specs.declared.limits.TheConstants.{MAX_COUNT}
+use Rattle.up_image.proofs.Bounds.{max_text}
 use Rattle.up_image.proofs.Thinning.{from_cut, push_text}
 use Rattle.up_image.proofs.Spelling.{Good, ReadsGood, reading_good, good_rest, feed_low}
 use Rattle.up_image.proofs.Rereading.{goes_on, front_marks}
@@ -57,12 +59,12 @@ number_most : (low high : ℕ) (text : List ℕ) (number : ℕ) → number_in lo
 number_most low high text number is = (and_parts (nat_le low number) (nat_le number high) (number_range low high text number is)).1
 
 abbrev pub is_limit : Limit → Bool
-is_limit limit = nat_le limit.count 65535 && nat_le limit.interval 2147483647
+is_limit limit = nat_le limit.count MAX_COUNT && nat_le limit.interval 2147483647
 
 limit_same : (made limit : Limit) → Some made ≡ Some limit → is_limit made ≡ true → is_limit limit ≡ true
 limit_same made limit is good = let same : made ≡ limit = cc in ap is_limit (sym same) ∙ good
 
-limit_both : (count interval : Option ℕ) (limit : Limit) → ((n : ℕ) → count ≡ Some n → nat_le n 65535 ≡ true) → ((n : ℕ) → interval ≡ Some n → nat_le n 2147483647 ≡ true) → limit_by count interval ≡ Some limit → is_limit limit ≡ true
+limit_both : (count interval : Option ℕ) (limit : Limit) → ((n : ℕ) → count ≡ Some n → nat_le n MAX_COUNT ≡ true) → ((n : ℕ) → interval ≡ Some n → nat_le n 2147483647 ≡ true) → limit_by count interval ≡ Some limit → is_limit limit ≡ true
 limit_both None interval limit few short is = absurd (cc)
 limit_both (Some count) None limit few short is = absurd (cc)
 limit_both (Some count) (Some interval) limit few short is = limit_same (record { count = count; interval = interval }) limit is (and_from _ _ (few count refl) (short interval refl))
@@ -74,7 +76,7 @@ limit_good (text ∷ []) limit is = by_case (bytes_eq text (codes "unlimited")) 
     by_case : (b : Bool) → cond b (Some (record { count = 0; interval = 0 })) None ≡ Some limit → is_limit limit ≡ true
     by_case true some = limit_same (record { count = 0; interval = 0 }) limit some refl
     by_case false none = absurd (cc)
-limit_good (count ∷ interval ∷ []) limit is = limit_both _ _ limit (λ n e. number_most 0 65535 count n e) (λ n e. number_most 0 2147483647 interval n e) is
+limit_good (count ∷ interval ∷ []) limit is = limit_both _ _ limit (λ n e. number_most 0 MAX_COUNT count n e) (λ n e. number_most 0 2147483647 interval n e) is
 limit_good (count ∷ interval ∷ third ∷ others) limit is = absurd (cc)
 
 signal_good : (text : List ℕ) (signal : ℕ) → signal_in text ≡ Some signal → is_signal signal ≡ true
@@ -283,8 +285,8 @@ readable_good : (bytes : List ℕ) → is_readable bytes ≡ true → Good bytes
 unfolding is_readable
 readable_good bytes is =
     let parts = and_parts _ (is_utf8 bytes) is in
-    let more = and_parts (nat_le (length bytes) 1048576) (not (list_any (λ byte. byte == 0) bytes)) parts.0 in
-    record { utf8 = IsUtf8-from_is_utf8 bytes parts.1; clean = not-true _ more.1; short = leb-true (length bytes) 1048576 more.0 }
+    let more = and_parts (nat_le (length bytes) max_text) (not (list_any (λ byte. byte == 0) bytes)) parts.0 in
+    record { utf8 = IsUtf8-from_is_utf8 bytes parts.1; clean = not-true _ more.1; short = leb-true (length bytes) max_text more.0 }
 
 pub conf_good : (bytes : List ℕ) (stanzas : List Stanza) → Conf bytes stanzas → AllGood StanzaGood stanzas
 conf_good bytes stanzas conf = stanzas_good (start bytes) stanzas (readable_good bytes conf.text) conf.written

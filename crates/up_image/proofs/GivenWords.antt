@@ -12,6 +12,7 @@ use Rattle.up_stanza.specs.declared.action.Action.{Action}
 use Rattle.up_stanza.specs.declared.action.Action.TheVariants.{Words, Shell}
 use Rattle.up_stanza.specs.Actions.{is_shell, action_of}
 use Rattle.up_image.specs.Definable.{is_token_byte, is_word_byte, is_word, are_words, is_shell_text, can_run, is_script}
+use Rattle.up_image.specs.declared.limits.TheConstants.{MAX_IMAGE, MAX_ITEMS}
 use Rattle.up_image.proofs.Thinning.{before_cut, after_cut, push_text}
 use Rattle.up_image.proofs.Spelling.{blank_low}
 use Rattle.up_image.proofs.Rereading.{Again, Follows}
@@ -187,21 +188,21 @@ values_from_tokens (b ∷ text) all =
 
 shell_good : (text : List ℕ) → CommandGood text → list_any is_shell text ≡ true → is_shell_text (codes "exec " ++ text) ≡ true
 shell_good text good some =
-    and_from _ _ (and_from _ _ (and_from _ _ (le-leb (length (codes "exec " ++ text)) 16777216 (omega (arith, good.short))) (is_utf8-from_IsUtf8 (codes "exec " ++ text) (exec_text text good.utf8))) (values_from_tokens text good.bytes))
+    and_from _ _ (and_from _ _ (and_from _ _ (le-leb (length (codes "exec " ++ text)) MAX_IMAGE (omega (arith, good.short))) (is_utf8-from_IsUtf8 (codes "exec " ++ text) (exec_text text good.utf8))) (values_from_tokens text good.bytes))
     (or_right (is_script (codes "exec " ++ text)) _ (and_from _ _ some good.again))
 
 -- what a command says
 pub action_good : (text : List ℕ) (action : Action) → CommandGood text → action_of text ≡ Some action → can_run (Some action) ≡ true
 unfolding action_of
-action_good text action good is = by_case (length text == 0) (list_any is_shell text) (nat_le (length (words_in text)) 65535) refl refl refl is
+action_good text action good is = by_case (length text == 0) (list_any is_shell text) (nat_le (length (words_in text)) MAX_ITEMS) refl refl refl is
   where
-    words_are : (length text == 0) ≡ false → list_any is_shell text ≡ false → nat_le (length (words_in text)) 65535 ≡ true → are_words (words_in text) ≡ true
+    words_are : (length text == 0) ≡ false → list_any is_shell text ≡ false → nat_le (length (words_in text)) MAX_ITEMS ≡ true → are_words (words_in text) ≡ true
     words_are some never few =
         let calms : list_all is_calm text ≡ true = ap (list_all is_calm) good.same ∙ calm_rest good.ms (Outside false) refl good.follows (ap (list_any is_shell) (sym good.same) ∙ never) in
         let filled : is_filled (words_in text) ≡ true = ap (λ t. is_filled (words_in t)) good.same ∙ marks_filled good.ms good.follows good.starts (ap (λ t. length t == 0) (sym good.same) ∙ some) in
         and_from _ _ (and_from _ _ filled few) (words_good (slice_split is_blank text) (none_pending (slice_split is_blank text) (split_good [] text good.utf8 refl good.bytes calms)))
 
-    by_case : (e s n : Bool) → (length text == 0) ≡ e → list_any is_shell text ≡ s → nat_le (length (words_in text)) 65535 ≡ n
+    by_case : (e s n : Bool) → (length text == 0) ≡ e → list_any is_shell text ≡ s → nat_le (length (words_in text)) MAX_ITEMS ≡ n
         → cond e None (cond s (Some (Shell (codes "exec " ++ text))) (cond n (Some (Words (words_in text))) None)) ≡ Some action → can_run (Some action) ≡ true
     by_case true s n ee es en is = absurd (cc)
     by_case false true n ee es en is = let same : Shell (codes "exec " ++ text) ≡ action = cc in subst (λ a. can_run (Some a) ≡ true) same (shell_good text good es)

@@ -26,6 +26,7 @@ use Rattle.up_image.specs.Texts.{text_part}
 use Rattle.up_image.specs.Versions.{fits_reload}
 use Rattle.up_image.specs.declared.version.Version.{Version}
 use Rattle.up_image.specs.declared.version.Version.TheVariants.{One, Two}
+use Rattle.up_image.specs.declared.limits.TheConstants.{MAX_COUNT, MAX_IMAGE, MAX_ITEMS}
 use Rattle.up_image.proofs.Decoding.{Decodes, shorter, two_found, four_found, list_decodes}
 use Rattle.up_image.proofs.PartDecoding.{name_decodes, key_decodes, token_decodes, setting_decodes, exit_decodes, action_decodes, trees_found, both_found}
 
@@ -34,7 +35,7 @@ abbrev is_condition : Option Tree → Bool
 is_condition condition = definable.can_await condition && image.fits_condition condition
 
 trees_are : (tree : Tree) (r : List ℕ) → definable.are_leaves tree ≡ true → list_all image.fits_node (nodes_of 0 tree) ≡ true → nat_le (size tree) 4095 ≡ true
-    → length (flat_map image.node_part (nodes_of 0 tree) ++ r) ≤ 16777216
+    → length (flat_map image.node_part (nodes_of 0 tree) ++ r) ≤ MAX_IMAGE
     → found.trees_by (length (nodes_of 0 tree), flat_map image.node_part (nodes_of 0 tree) ++ r) ≡ Some (Some tree, r)
 trees_are tree r are fit short small =
     let long = length_nodes 0 tree in
@@ -45,7 +46,7 @@ condition_decodes : Decodes (λ condition. image.list_part image.node_part (imag
 unfolding condition_at
 condition_decodes = record { finds = by_case }
   where
-    by_case : (condition : Option Tree) (r : List ℕ) → is_condition condition ≡ true → length (image.list_part image.node_part (image.nodes_in condition) ++ r) ≤ 16777216
+    by_case : (condition : Option Tree) (r : List ℕ) → is_condition condition ≡ true → length (image.list_part image.node_part (image.nodes_in condition) ++ r) ≤ MAX_IMAGE
         → condition_at (image.list_part image.node_part (image.nodes_in condition) ++ r) ≡ Some (condition, r)
     by_case None r is small = rw (two_found 0 r (omega arith)) refl
     by_case (Some tree) r is small =
@@ -55,7 +56,7 @@ condition_decodes = record { finds = by_case }
         let leaves = and_parts (definable.are_leaves tree) (definable.is_shallow 256 tree) whole.0 in
         let fits = and_parts (nat_le (size tree) 4095) (list_all image.fits_node nodes) parts.1 in
         let apart = append_assoc (big_bytes 2 (length nodes)) (flat_map image.node_part nodes) r in
-        let small_whole : length (big_bytes 2 (length nodes) ++ (flat_map image.node_part nodes ++ r)) ≤ 16777216 = omega (arith, small, ap length apart) in
+        let small_whole : length (big_bytes 2 (length nodes) ++ (flat_map image.node_part nodes ++ r)) ≤ MAX_IMAGE = omega (arith, small, ap length apart) in
         ap (λ bytes. option_and_then found.trees_by (number_at 2 bytes)) apart
         ∙ ap (λ x. option_and_then found.trees_by x) (two_found (length nodes) (flat_map image.node_part nodes ++ r) (omega (arith, length_nodes 0 tree, leb-true (size tree) 4095 fits.0)))
         ∙ trees_are tree r leaves.0 fits.1 fits.0 (shorter (big_bytes 2 (length nodes)) (flat_map image.node_part nodes ++ r) small_whole)
@@ -70,14 +71,14 @@ four_apart a b c d r = append_assoc (a ++ b ++ c) d r ∙ three_apart a b c (d +
 five_apart : (a b c d e r : List ℕ) → (a ++ b ++ c ++ d ++ e) ++ r ≡ a ++ (b ++ (c ++ (d ++ (e ++ r))))
 five_apart a b c d e r = append_assoc (a ++ b ++ c ++ d) e r ∙ four_apart a b c d (e ++ r)
 
-regrouped : (one other : List ℕ) → one ≡ other → length one ≤ 16777216 → length other ≤ 16777216
+regrouped : (one other : List ℕ) → one ≡ other → length one ≤ MAX_IMAGE → length other ≤ MAX_IMAGE
 regrouped one other is small = omega (arith, small, ap length is)
 
 -- a job's own texts
 abbrev texts : JobDef → Texts
 texts job = record { name = job.name; flags = image.flags job; instance = job.instance; dir = job.dir }
 
-texts_found : (job : JobDef) (r : List ℕ) → definable.has_texts job ≡ true → length (image.text_parts job ++ r) ≤ 16777216 → texts_at (image.text_parts job ++ r) ≡ Some (texts job, r)
+texts_found : (job : JobDef) (r : List ℕ) → definable.has_texts job ≡ true → length (image.text_parts job ++ r) ≤ MAX_IMAGE → texts_at (image.text_parts job ++ r) ≡ Some (texts job, r)
 unfolding texts_at
 texts_found job r is small =
     let last = and_parts _ (definable.is_token job.dir) is in
@@ -115,14 +116,14 @@ numbers_found version job r fit is =
     let end = and_parts _ (is_signal job.reload_signal) is in
     let last = and_parts _ (nat_le job.kill_timeout 2147483647) end.0 in
     let front = and_parts _ (is_signal job.kill_signal) last.0 in
-    let first = and_parts (nat_le job.limit.count 65535) (nat_le job.limit.interval 2147483647) front.0 in
+    let first = and_parts (nat_le job.limit.count MAX_COUNT) (nat_le job.limit.interval 2147483647) front.0 in
     let t = big_bytes 4 job.kill_timeout ++ r in
     let s = image.reload_part version job ++ t in
     let k = (job.kill_signal ∷ []) ++ s in
     let i = big_bytes 4 job.limit.interval ++ k in
     ap (λ bytes. numbers_at version bytes) (five_apart (big_bytes 4 job.limit.count) (big_bytes 4 job.limit.interval) (job.kill_signal ∷ []) (image.reload_part version job) (big_bytes 4 job.kill_timeout) r)
     ∙ numbers_by version (big_bytes 4 job.limit.count ++ i) i k s t r job.limit.count job.limit.interval job.kill_signal job.reload_signal job.kill_timeout
-    (four_found job.limit.count i (omega (arith, leb-true job.limit.count 65535 first.0)))
+    (four_found job.limit.count i (omega (arith, leb-true job.limit.count MAX_COUNT first.0)))
     (four_found job.limit.interval k (omega (arith, leb-true job.limit.interval 2147483647 first.1)))
     refl
     (reload_found version job t fits.1)
@@ -141,15 +142,15 @@ signals_found job is =
 abbrev lists : JobDef → Lists
 lists job = record { env = job.env; export = job.export; normal = job.normal }
 
-keys_few : (n : ℕ) → nat_le n 60000 ≡ true → nat_le n 65535 ≡ true
-keys_few n few = le-leb n 65535 (omega (arith, leb-true n 60000 few))
+keys_few : (n : ℕ) → nat_le n 60000 ≡ true → nat_le n MAX_ITEMS ≡ true
+keys_few n few = le-leb n MAX_ITEMS (omega (arith, leb-true n 60000 few))
 
 lists_by : (bytes k x r : List ℕ) (env : List Setting) (keys : List (List ℕ)) (exits : List Exit) → list_at setting_at bytes ≡ Some (env, k) → list_at text_at k ≡ Some (keys, x) → list_at exit_at x ≡ Some (exits, r)
     → lists_at bytes ≡ Some (record { env = env; export = keys; normal = exits }, r)
 unfolding lists_at
 lists_by bytes k x r env keys exits one two three = rw (one, two, three) refl
 
-lists_found : (job : JobDef) (r : List ℕ) → definable.has_lists job ≡ true → image.is_countable job.normal ≡ true → length (image.set_part job ++ r) ≤ 16777216 → lists_at (image.set_part job ++ r) ≡ Some (lists job, r)
+lists_found : (job : JobDef) (r : List ℕ) → definable.has_lists job ≡ true → image.is_countable job.normal ≡ true → length (image.set_part job ++ r) ≤ MAX_IMAGE → lists_at (image.set_part job ++ r) ≡ Some (lists job, r)
 lists_found job r is few small =
     let last = and_parts _ (definable.are_exits job.normal) is in
     let first = and_parts (definable.can_set job.env) (definable.can_export job.export) last.0 in
@@ -173,7 +174,7 @@ lists_found job r is few small =
 abbrev processes : JobDef → Processes
 processes job = record { main = job.main; pre_start = job.pre_start; post_start = job.post_start; pre_stop = job.pre_stop; post_stop = job.post_stop }
 
-processes_found : (job : JobDef) (r : List ℕ) → definable.has_processes job ≡ true → length (image.process_part job ++ r) ≤ 16777216 → processes_at (image.process_part job ++ r) ≡ Some (processes job, r)
+processes_found : (job : JobDef) (r : List ℕ) → definable.has_processes job ≡ true → length (image.process_part job ++ r) ≤ MAX_IMAGE → processes_at (image.process_part job ++ r) ≡ Some (processes job, r)
 unfolding processes_at
 processes_found job r is small =
     let p4 = and_parts _ (definable.can_run job.post_stop) is in
@@ -204,7 +205,7 @@ processes_found job r is small =
 abbrev events : JobDef → Events
 events job = record { start_on = job.start_on; stop_on = job.stop_on }
 
-events_found : (job : JobDef) (r : List ℕ) → definable.has_events job ≡ true → image.fits_events job ≡ true → length (image.event_part job ++ r) ≤ 16777216 → events_at (image.event_part job ++ r) ≡ Some (events job, r)
+events_found : (job : JobDef) (r : List ℕ) → definable.has_events job ≡ true → image.fits_events job ≡ true → length (image.event_part job ++ r) ≤ MAX_IMAGE → events_at (image.event_part job ++ r) ≡ Some (events job, r)
 unfolding events_at
 events_found job r is fit small =
     let parts = and_parts (definable.can_await job.start_on) (definable.can_await job.stop_on) is in
@@ -230,7 +231,7 @@ whole_job job = let read = flags_read job.task job.respawn job.silent in rw (rea
 abbrev pub is_found_job : Version → JobDef → Bool
 is_found_job version job = image.fits version job && definable.is_definable job
 
-job_found : (version : Version) (job : JobDef) (r : List ℕ) → is_found_job version job ≡ true → length (image.job_part version job ++ r) ≤ 16777216 → job_at version (image.job_part version job ++ r) ≡ Some (job, r)
+job_found : (version : Version) (job : JobDef) (r : List ℕ) → is_found_job version job ≡ true → length (image.job_part version job ++ r) ≤ MAX_IMAGE → job_at version (image.job_part version job ++ r) ≡ Some (job, r)
 unfolding job_at image.job_part image.fits definable.is_definable
 job_found version job r is small =
     let both = and_parts (image.fits version job) (definable.is_definable job) is in

@@ -3,6 +3,7 @@ use Rattle.std.proofs.Common.{◌≡◌, ℕ, ◌+◌, ◌≤◌, ◌<◌, List,
 use Rattle.std.specs.List.{flat_map}
 use Rattle.std.proofs.lemmas.List.{take_more, flat_map_more}
 use Rattle.std.proofs.lemmas.Bool.{lt-leb}
+use Rattle.up_image.specs.declared.limits.TheConstants.{MAX_IMAGE}
 
 -- one item more
 pub length_more : {X : Type 0} (part : X → List ℕ) (xs : List X) (i : ℕ) (d : X) → i < length xs
@@ -22,7 +23,7 @@ front_shorter part (x ∷ xs) (suc i) =
 
 -- with this item there are too many
 pub too_long : {X : Type 0} (part : X → List ℕ) (xs : List X) (i : ℕ) (d : X) (back : List ℕ) (len : ℕ) → i < length xs
-    → len ≡ 12 + length (flat_map part (take i xs)) → 16777216 < len + length (part (get_or xs i d)) → false ≡ nat_le (12 + length (flat_map part xs ++ back)) 16777216
+    → len ≡ 12 + length (flat_map part (take i xs)) → MAX_IMAGE < len + length (part (get_or xs i d)) → false ≡ nat_le (12 + length (flat_map part xs ++ back)) MAX_IMAGE
 too_long part xs i d back len below so_far over =
-    sym (lt-leb (12 + length (flat_map part xs ++ back)) 16777216
+    sym (lt-leb (12 + length (flat_map part xs ++ back)) MAX_IMAGE
     (omega (arith, so_far, over, length_more part xs i d below, front_shorter part xs (i + 1), length-append (flat_map part xs) back)))

@@ -1,5 +1,6 @@
 pub mod Appending
 pub mod Ascending
+pub mod Bounds
 pub mod Comparing
 pub mod Counting
 pub mod Decoding

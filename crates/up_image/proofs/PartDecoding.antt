@@ -26,6 +26,7 @@ use Rattle.up_image.specs.Definable as definable
 use Rattle.up_image.specs.Finding as found
 use Rattle.up_image.specs.Finding.{Found, text_at, name_at, list_at, value_at, setting_at, exit_at, action_at, test_at, leaf_at, trees_at, node_at, condition_at}
 use Rattle.up_image.specs.Texts.{text_part}
+use Rattle.up_image.specs.declared.limits.TheConstants.{MAX_IMAGE, MAX_ITEMS}
 use Rattle.up_image.proofs.Decoding.{Decodes, shorter, also_decodes, number_is, text_decodes, list_decodes}
 use Rattle.up_image.proofs.Utf8.{name_is_text, key_is_text}
 
@@ -34,7 +35,7 @@ pub name_decodes : Decodes text_part name_at is_name
 unfolding name_at
 name_decodes = record { finds = found_it }
   where
-    found_it : (name r : List ℕ) → is_name name ≡ true → length (text_part name ++ r) ≤ 16777216 → name_at (text_part name ++ r) ≡ Some (name, r)
+    found_it : (name r : List ℕ) → is_name name ≡ true → length (text_part name ++ r) ≤ MAX_IMAGE → name_at (text_part name ++ r) ≡ Some (name, r)
     found_it name r valid small = rw (text_decodes.finds name r (name_is_text name valid) small, valid) refl
 
 pub key_decodes : Decodes text_part text_at is_key
@@ -48,18 +49,18 @@ value_decodes : Decodes image.value_part value_at definable.is_value_token
 unfolding value_at
 value_decodes = record { finds = by_case }
   where
-    by_case : (value : Option (List ℕ)) (r : List ℕ) → definable.is_value_token value ≡ true → length (image.value_part value ++ r) ≤ 16777216
+    by_case : (value : Option (List ℕ)) (r : List ℕ) → definable.is_value_token value ≡ true → length (image.value_part value ++ r) ≤ MAX_IMAGE
         → value_at (image.value_part value ++ r) ≡ Some (value, r)
     by_case None r is small = refl
     by_case (Some text) r is small = rw (token_decodes.finds text r is (omega (arith, small))) refl
 
 -- two parts, one after the other
 pub both_found : {A B C : Type 0} {p : A → List ℕ} {q : B → List ℕ} {f : List ℕ → Found A} {g : List ℕ → Found B} {t : A → Bool} {u : B → Bool} (h : A → B → C)
-    → Decodes p f t → Decodes q g u → (a : A) (b : B) (r : List ℕ) → t a ≡ true → u b ≡ true → length (p a ++ q b ++ r) ≤ 16777216
+    → Decodes p f t → Decodes q g u → (a : A) (b : B) (r : List ℕ) → t a ≡ true → u b ≡ true → length (p a ++ q b ++ r) ≤ MAX_IMAGE
     → option_and_then (λ x. found.made (λ y. h x.0 y) (g x.1)) (f (p a ++ q b ++ r)) ≡ Some (h a b, r)
 both_found {p = p} {q = q} {f = f} {g = g} h first second a b r ta ub small =
     let apart = append_assoc (p a) (q b) r in
-    let small_whole : length (p a ++ (q b ++ r)) ≤ 16777216 = omega (arith, small, ap length apart) in
+    let small_whole : length (p a ++ (q b ++ r)) ≤ MAX_IMAGE = omega (arith, small, ap length apart) in
     ap (λ bytes. option_and_then (λ x. found.made (λ y. h x.0 y) (g x.1)) (f bytes)) apart
     ∙ ap (λ x. option_and_then (λ x. found.made (λ y. h x.0 y) (g x.1)) x) (first.finds a (q b ++ r) ta small_whole)
     ∙ ap (λ y. found.made (λ y. h a y) y) (second.finds b r ub (shorter (p a) (q b ++ r) small_whole))
@@ -68,7 +69,7 @@ pub setting_decodes : Decodes image.setting_part setting_at definable.is_setting
 unfolding setting_at
 setting_decodes = record { finds = found_it }
   where
-    found_it : (setting : Setting) (r : List ℕ) → definable.is_setting setting ≡ true → length (image.setting_part setting ++ r) ≤ 16777216 → setting_at (image.setting_part setting ++ r) ≡ Some (setting, r)
+    found_it : (setting : Setting) (r : List ℕ) → definable.is_setting setting ≡ true → length (image.setting_part setting ++ r) ≤ MAX_IMAGE → setting_at (image.setting_part setting ++ r) ≡ Some (setting, r)
     found_it setting r is small =
         let parts = and_parts (is_key setting.key) (definable.is_value_token setting.value) is in
         both_found (λ key value. record { key = key; value = value }) key_decodes value_decodes setting.key setting.value r parts.0 parts.1 small
@@ -78,7 +79,7 @@ pub exit_decodes : Decodes image.exit_part exit_at definable.is_exit
 unfolding exit_at
 exit_decodes = record { finds = by_case }
   where
-    by_case : (its : Exit) (r : List ℕ) → definable.is_exit its ≡ true → length (image.exit_part its ++ r) ≤ 16777216 → exit_at (image.exit_part its ++ r) ≡ Some (its, r)
+    by_case : (its : Exit) (r : List ℕ) → definable.is_exit its ≡ true → length (image.exit_part its ++ r) ≤ MAX_IMAGE → exit_at (image.exit_part its ++ r) ≡ Some (its, r)
     by_case (exit.Status status) r is small = refl
     by_case (exit.Signal signal) r is small = rw is refl
 
@@ -86,7 +87,7 @@ exit_decodes = record { finds = by_case }
 word_text : (word : List ℕ) → definable.is_word word ≡ true → is_utf8 word ≡ true
 word_text word is = (and_parts _ _ (and_parts _ (list_all definable.is_word_byte word) is).0).1
 
-words_decode : Decodes (image.list_part text_part) (list_at text_at) (λ words. nat_le (length words) 65535 && list_all definable.is_word words)
+words_decode : Decodes (image.list_part text_part) (list_at text_at) (λ words. nat_le (length words) MAX_ITEMS && list_all definable.is_word words)
 words_decode = list_decodes (also_decodes definable.is_word word_text text_decodes)
 
 shell_text : (text : List ℕ) → definable.is_shell_text text ≡ true → is_utf8 text ≡ true
@@ -96,11 +97,11 @@ pub action_decodes : Decodes image.action_part action_at definable.can_run
 unfolding action_at
 action_decodes = record { finds = by_case }
   where
-    by_case : (action : Option Action) (r : List ℕ) → definable.can_run action ≡ true → length (image.action_part action ++ r) ≤ 16777216 → action_at (image.action_part action ++ r) ≡ Some (action, r)
+    by_case : (action : Option Action) (r : List ℕ) → definable.can_run action ≡ true → length (image.action_part action ++ r) ≤ MAX_IMAGE → action_at (image.action_part action ++ r) ≡ Some (action, r)
     by_case None r is small = refl
     by_case (Some (Words words)) r is small =
         let parts = and_parts _ (list_all definable.is_word words) is in
-        rw (words_decode.finds words r (rw ((and_parts _ (nat_le (length words) 65535) parts.0).1, parts.1) refl) (omega (arith, small))) refl
+        rw (words_decode.finds words r (rw ((and_parts _ (nat_le (length words) MAX_ITEMS) parts.0).1, parts.1) refl) (omega (arith, small))) refl
     by_case (Some (Shell text)) r is small =
         rw (text_decodes.finds text r (shell_text text is) (omega (arith, small))) refl
 
@@ -109,18 +110,18 @@ leaf_value : (value : List ℕ) → definable.is_leaf_value value ≡ true → d
 leaf_value value is = (and_parts (definable.is_token value) _ is).0
 
 keyed_part : (kind : ℕ) (key value r : List ℕ) (test : Test) → found.keyed_by kind key value ≡ Some test → is_key key ≡ true → definable.is_token value ≡ true
-    → length ((text_part key ++ text_part value) ++ r) ≤ 16777216
+    → length ((text_part key ++ text_part value) ++ r) ≤ MAX_IMAGE
     → option_and_then (found.keyed_at kind) (text_at ((text_part key ++ text_part value) ++ r)) ≡ Some (test, r)
 keyed_part kind key value r test by is_one is small =
     let apart = append_assoc (text_part key) (text_part value) r in
-    let small_whole : length (text_part key ++ (text_part value ++ r)) ≤ 16777216 = omega (arith, small, ap length apart) in
+    let small_whole : length (text_part key ++ (text_part value ++ r)) ≤ MAX_IMAGE = omega (arith, small, ap length apart) in
     rw (apart, key_decodes.finds key (text_part value ++ r) is_one small_whole, token_decodes.finds value r is (shorter (text_part key) (text_part value ++ r) small_whole), by) refl
 
 test_decodes : Decodes image.test_part test_at definable.is_test
 unfolding test_at
 test_decodes = record { finds = by_case }
   where
-    by_case : (test : Test) (r : List ℕ) → definable.is_test test ≡ true → length (image.test_part test ++ r) ≤ 16777216 → test_at (image.test_part test ++ r) ≡ Some (test, r)
+    by_case : (test : Test) (r : List ℕ) → definable.is_test test ≡ true → length (image.test_part test ++ r) ≤ MAX_IMAGE → test_at (image.test_part test ++ r) ≡ Some (test, r)
     by_case (Place value) r is small =
         rw (token_decodes.finds value r (leaf_value value (and_parts (definable.is_leaf_value value) _ is).0) (omega (arith, small))) refl
     by_case (Same key value) r is small =
@@ -131,7 +132,7 @@ test_decodes = record { finds = by_case }
         keyed_part 2 key value r (Differs key value) refl parts.0 (leaf_value value parts.1) (omega (arith, small))
 
 leaf_found : (leaf : Leaf) (r : List ℕ) → definable.is_leaf leaf ≡ true → image.is_countable leaf.values ≡ true
-    → length (text_part leaf.event ++ image.list_part image.test_part leaf.values ++ r) ≤ 16777216 → leaf_at (text_part leaf.event ++ image.list_part image.test_part leaf.values ++ r) ≡ Some (leaf, r)
+    → length (text_part leaf.event ++ image.list_part image.test_part leaf.values ++ r) ≤ MAX_IMAGE → leaf_at (text_part leaf.event ++ image.list_part image.test_part leaf.values ++ r) ≡ Some (leaf, r)
 unfolding leaf_at
 leaf_found leaf r is few small =
     let whole = and_parts (is_name leaf.event && list_all definable.is_test leaf.values && is_ordered leaf.values) (image.is_countable leaf.values) is in
@@ -147,7 +148,7 @@ sides_passed : (x y z w : ℕ) (r : List ℕ) → found.after_sides (x ∷ y ∷
 sides_passed x y z w r = rw (two_passed x y (z ∷ w ∷ r), two_passed z w r) refl
 
 node_found : (leaf : Leaf) (trees : List Tree) (r : List ℕ) → definable.is_leaf leaf ≡ true → image.is_countable leaf.values ≡ true
-    → length (image.node_part (node.Leaf leaf) ++ r) ≤ 16777216 → node_at trees (image.node_part (node.Leaf leaf) ++ r) ≡ Some (One leaf ∷ trees, r)
+    → length (image.node_part (node.Leaf leaf) ++ r) ≤ MAX_IMAGE → node_at trees (image.node_part (node.Leaf leaf) ++ r) ≡ Some (One leaf ∷ trees, r)
 unfolding node_at
 node_found leaf trees r is few small = rw (leaf_found leaf r is few (omega (arith, small))) refl
 
@@ -182,7 +183,7 @@ sides_fit left right top all =
     and_parts _ _ (sym (list_all-append image.fits_node left right) ∙ front)
 
 pub trees_found : (tree : Tree) (start count n : ℕ) (trees : List Tree) (r : List ℕ) → definable.are_leaves tree ≡ true → list_all image.fits_node (nodes_of start tree) ≡ true
-    → count ≡ size tree + n → length (flat_map image.node_part (nodes_of start tree) ++ r) ≤ 16777216
+    → count ≡ size tree + n → length (flat_map image.node_part (nodes_of start tree) ++ r) ≤ MAX_IMAGE
     → trees_at count trees (flat_map image.node_part (nodes_of start tree) ++ r) ≡ trees_at n (tree ∷ trees) r
 trees_found (One leaf) start count n trees r are fit long small =
     let few = (and_parts (image.is_countable leaf.values) true fit).0 in
@@ -196,7 +197,7 @@ trees_found (Both left right) start count n trees r are fit long small =
     let fits = sides_fit ls rs top fit in
     let apart = sides_apart ls rs top r in
     let last = (image.node_part top ++ []) ++ r in
-    let small_whole : length (flat_map image.node_part ls ++ (flat_map image.node_part rs ++ last)) ≤ 16777216 = omega (arith, small, ap length apart) in
+    let small_whole : length (flat_map image.node_part ls ++ (flat_map image.node_part rs ++ last)) ≤ MAX_IMAGE = omega (arith, small, ap length apart) in
     ap (λ bytes. trees_at count trees bytes) apart
     ∙ trees_found left start count (size right + (1 + n)) trees (flat_map image.node_part rs ++ last) both.0 fits.0 (omega (arith, long)) small_whole
     ∙ trees_found right (start + size left) (size right + (1 + n)) (1 + n) (left ∷ trees) last both.1 fits.1 refl (shorter (flat_map image.node_part ls) (flat_map image.node_part rs ++ last) small_whole)
@@ -209,7 +210,7 @@ trees_found (Either left right) start count n trees r are fit long small =
     let fits = sides_fit ls rs top fit in
     let apart = sides_apart ls rs top r in
     let last = (image.node_part top ++ []) ++ r in
-    let small_whole : length (flat_map image.node_part ls ++ (flat_map image.node_part rs ++ last)) ≤ 16777216 = omega (arith, small, ap length apart) in
+    let small_whole : length (flat_map image.node_part ls ++ (flat_map image.node_part rs ++ last)) ≤ MAX_IMAGE = omega (arith, small, ap length apart) in
     ap (λ bytes. trees_at count trees bytes) apart
     ∙ trees_found left start count (size right + (1 + n)) trees (flat_map image.node_part rs ++ last) both.0 fits.0 (omega (arith, long)) small_whole
     ∙ trees_found right (start + size left) (size right + (1 + n)) (1 + n) (left ∷ trees) last both.1 fits.1 refl (shorter (flat_map image.node_part ls) (flat_map image.node_part rs ++ last) small_whole)

@@ -8,10 +8,11 @@ use Rattle.byteorder.specs.Endian.{big_bytes, big_from}
 use Rattle.byteorder.specs.Numbers.{big_number-reads_back}
 use Rattle.up_image.specs.Image.{list_part}
 use Rattle.up_image.specs.Texts.{text_part}
+use Rattle.up_image.specs.declared.limits.TheConstants.{MAX_IMAGE, MAX_ITEMS}
 
 -- what the parts of things that pass a test tell, in a text of 16 MiB at most
 pub record Tells {X V : Type 0} (part : X → List ℕ) (value : X → V) (test : X → Bool) : Type 0 where
-  pub tells : (x y : X) (r s : List ℕ) → test x ≡ true → test y ≡ true → length (part x ++ r) ≤ 16777216 → part x ++ r ≡ part y ++ s
+  pub tells : (x y : X) (r s : List ℕ) → test x ≡ true → test y ≡ true → length (part x ++ r) ≤ MAX_IMAGE → part x ++ r ≡ part y ++ s
       → (value x ≡ value y) × (r ≡ s)
 
 abbrev pub pair : {V W : Type 0} → V → W → V × W
@@ -39,14 +40,14 @@ same_number n x y r s small also long is = (
   (same_length (big_bytes n x) (big_bytes n y) r s long is).1,
 )
 
-pub same_two : (x y : ℕ) (r s : List ℕ) → x ≤ 65535 → y ≤ 65535 → big_bytes 2 x ++ r ≡ big_bytes 2 y ++ s → (x ≡ y) × (r ≡ s)
+pub same_two : (x y : ℕ) (r s : List ℕ) → x ≤ MAX_ITEMS → y ≤ MAX_ITEMS → big_bytes 2 x ++ r ≡ big_bytes 2 y ++ s → (x ≡ y) × (r ≡ s)
 same_two x y r s small also is = same_number 2 x y r s (omega (arith, small)) (omega (arith, also)) refl is
 
 pub same_four : (x y : ℕ) (r s : List ℕ) → x ≤ 4294967295 → y ≤ 4294967295 → big_bytes 4 x ++ r ≡ big_bytes 4 y ++ s → (x ≡ y) × (r ≡ s)
 same_four x y r s small also is = same_number 4 x y r s (omega (arith, small)) (omega (arith, also)) refl is
 
 -- a text
-pub same_text : (x y r s : List ℕ) → length (text_part x ++ r) ≤ 16777216 → text_part x ++ r ≡ text_part y ++ s → (x ≡ y) × (r ≡ s)
+pub same_text : (x y r s : List ℕ) → length (text_part x ++ r) ≤ MAX_IMAGE → text_part x ++ r ≡ text_part y ++ s → (x ≡ y) × (r ≡ s)
 same_text x y r s small is =
     let long_x = length-append (text_part x) r in
     let long_y = length-append (text_part y) s in
@@ -63,7 +64,7 @@ both_tell {p = p} {q = q} {f = f} {g = g} {t = t} {u = u} first second = record 
       let px = and_parts (t x) (u x) tx in
       let py = and_parts (t y) (u y) ty in
       let one = first.tells x y (q x ++ r) (q y ++ s) px.0 py.0 (rw (append_assoc (p x) (q x) r) at small) (sym (append_assoc (p x) (q x) r) ∙ is ∙ append_assoc (p y) (q y) s) in
-      let short : length (q x ++ r) ≤ 16777216 = omega (arith, small, ap length (append_assoc (p x) (q x) r), length-append (p x) (q x ++ r)) in
+      let short : length (q x ++ r) ≤ MAX_IMAGE = omega (arith, small, ap length (append_assoc (p x) (q x) r), length-append (p x) (q x ++ r)) in
       let two = second.tells x y r s px.1 py.1 short one.1 in
       (rw (one.0, two.0) refl, two.1);
 }
@@ -80,7 +81,7 @@ also_tells other f says tell = record {
 
 -- as many items
 pub same_items : {X V : Type 0} (part : X → List ℕ) (value : X → V) (test : X → Bool) → Tells part value test → (xs ys : List X) (r s : List ℕ)
-    → list_all test xs ≡ true → list_all test ys ≡ true → length xs ≡ length ys → length (flat_map part xs ++ r) ≤ 16777216
+    → list_all test xs ≡ true → list_all test ys ≡ true → length xs ≡ length ys → length (flat_map part xs ++ r) ≤ MAX_IMAGE
     → flat_map part xs ++ r ≡ flat_map part ys ++ s → (map value xs ≡ map value ys) × (r ≡ s)
 same_items part value test tell [] [] r s tx ty long small is = (refl, is)
 same_items part value test tell [] (y ∷ ys) r s tx ty long small is = absurd (cc)
@@ -90,17 +91,17 @@ same_items part value test tell (x ∷ xs) (y ∷ ys) r s tx ty long small is =
     let py = and_parts (test y) (list_all test ys) ty in
     let one = tell.tells x y (flat_map part xs ++ r) (flat_map part ys ++ s) px.0 py.0 (rw (append_assoc (part x) (flat_map part xs) r) at small)
     (sym (append_assoc (part x) (flat_map part xs) r) ∙ is ∙ append_assoc (part y) (flat_map part ys) s) in
-    let short : length (flat_map part xs ++ r) ≤ 16777216 = omega (arith, small, ap length (append_assoc (part x) (flat_map part xs) r), length-append (part x) (flat_map part xs ++ r)) in
+    let short : length (flat_map part xs ++ r) ≤ MAX_IMAGE = omega (arith, small, ap length (append_assoc (part x) (flat_map part xs) r), length-append (part x) (flat_map part xs ++ r)) in
     let two = same_items part value test tell xs ys r s px.1 py.1 (omega (arith, long)) short one.1 in
     (rw (one.0, two.0) refl, two.1)
 
 -- a list
-pub list_tells : {X V : Type 0} {part : X → List ℕ} {value : X → V} {test : X → Bool} → Tells part value test → Tells (list_part part) (map value) (λ xs. nat_le (length xs) 65535 && list_all test xs)
+pub list_tells : {X V : Type 0} {part : X → List ℕ} {value : X → V} {test : X → Bool} → Tells part value test → Tells (list_part part) (map value) (λ xs. nat_le (length xs) MAX_ITEMS && list_all test xs)
 list_tells {part = part} {value = value} {test = test} tell = record {
   tells = λ xs ys r s tx ty small is.
-      let px = and_parts (nat_le (length xs) 65535) (list_all test xs) tx in
-      let py = and_parts (nat_le (length ys) 65535) (list_all test ys) ty in
-      let count = same_two (length xs) (length ys) (flat_map part xs ++ r) (flat_map part ys ++ s) (leb-true (length xs) 65535 px.0) (leb-true (length ys) 65535 py.0) is in
-      let short : length (flat_map part xs ++ r) ≤ 16777216 = omega (arith, small) in
+      let px = and_parts (nat_le (length xs) MAX_ITEMS) (list_all test xs) tx in
+      let py = and_parts (nat_le (length ys) MAX_ITEMS) (list_all test ys) ty in
+      let count = same_two (length xs) (length ys) (flat_map part xs ++ r) (flat_map part ys ++ s) (leb-true (length xs) MAX_ITEMS px.0) (leb-true (length ys) MAX_ITEMS py.0) is in
+      let short : length (flat_map part xs ++ r) ≤ MAX_IMAGE = omega (arith, small) in
       same_items part value test tell xs ys r s px.1 py.1 count.0 short count.1;
 }

@@ -14,6 +14,7 @@ use Rattle.up_image.specs.Index.{entries_of, index_part}
 use Rattle.up_image.specs.Reading.{HasNoTable, HasTable, IsStored, version_at}
 use Rattle.up_image.specs.declared.version.Version.{Version}
 use Rattle.up_image.specs.declared.version.Version.TheVariants.{One, Two}
+use Rattle.up_image.specs.declared.limits.TheConstants.{MAX_IMAGE}
 use Rattle.up_image.proofs.Decoding.{items_found}
 use Rattle.up_image.proofs.Images.{has_it, same_version, says_version}
 use Rattle.up_image.proofs.JobDecoding.{is_found_job, job_decodes}
@@ -38,7 +39,7 @@ unfolding are_definable
 jobs_found version bytes jobs image given =
     let index = index_part (entries_of jobs) in
     let head = head_of version (length jobs) (length bytes) in
-    let short : length (flat_map (job_part version) jobs ++ index) ≤ 16777216 =
+    let short : length (flat_map (job_part version) jobs ++ index) ≤ MAX_IMAGE =
     omega (arith, image.small, ap length image.written, length-append head (flat_map (job_part version) jobs ++ index)) in
     let number : big_number 2 (drop 6 bytes) ≡ length jobs = ap (λ b. big_number 2 (drop 6 b)) image.written ∙ counted version (length jobs) (length bytes) (body_of version jobs) image.few in
     let body : drop 12 bytes ≡ body_of version jobs = ap (λ b. drop 12 b) image.written ∙ body_after version (length jobs) (length bytes) (body_of version jobs) in

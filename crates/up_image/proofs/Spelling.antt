@@ -10,6 +10,7 @@ use Rattle.up_text.specs.Lists.{begins}
 use Rattle.up_text.specs.Tokens.{Mark, Part, Quoting, Folded, Alone, Blank, Passed, Stop, Fail, Mode, Outside, Comment, Escaped, Continued, Quoted, QuotedEscape, marks, mark_of, mark_outside, mark_quoted, mode_after, mode_outside, mode_quoted, open_after, end_marks, feed_mark, is_line_feed, is_blank, is_hash, is_quote, is_backslash, is_paren, reaches_feed}
 use Rattle.up_text.specs.Places.{Place, Reading, Got, Ended, Fails, is_gap, is_spelled, token_bytes, fault_in, marks_at, gap_at, place_after, read_at, reading, spelling_read}
 use Rattle.up_image.specs.Definable.{is_token_byte, is_token}
+use Rattle.up_image.proofs.Bounds.{max_text}
 use Rattle.up_image.proofs.Thinning.{Gives, Ends, Thins, thins_tells, told_text, told_bytes, thinned_rest, from_cut, after_cut, push_text, tail_text}
 
 -- bytes of ASCII
@@ -258,7 +259,7 @@ gap_ends inside parens depth (QuotedEscape quote) pending (b ∷ text) whole = a
 pub record Good (text : List ℕ) : Type 0 where
   pub utf8 : IsUtf8 text
   pub clean : list_any (λ byte. byte == 0) text ≡ false
-  pub short : length text ≤ 1048576
+  pub short : length text ≤ max_text
 
 pub any_drop : {X : Type 0} (p : X → Bool) (n : ℕ) (xs : List X) → list_any p xs ≡ false → list_any p (drop n xs) ≡ false
 any_drop p zero xs none = none

@@ -7,6 +7,7 @@ use Rattle.up_conf.specs.declared.job.JobDef.{JobDef}
 use Rattle.up_image.specs.Image.{IsVersion, fits, job_part, head_of}
 use Rattle.up_image.specs.Index.{entries_of, index_part}
 use Rattle.up_image.specs.declared.version.Version.{Version}
+use Rattle.up_image.specs.declared.limits.TheConstants.{MAX_IMAGE}
 use Rattle.up_image.proofs.Images.{says_version, same_version}
 use Rattle.up_image.proofs.Prefixes.{same_items, same_length, same_two}
 use Rattle.up_image.proofs.Telling.{job_tells}
@@ -23,7 +24,7 @@ same_by version bytes jobs others image also =
     let cut = same_length (head_of version (length jobs) (length bytes)) (head_of version (length others) (length bytes)) (flat_map (job_part version) jobs ++ index) (flat_map (job_part version) others ++ other_index) refl
     (sym image.written ∙ also.written) in
     let counted = same_count version (length jobs) (length others) (length bytes) image.few also.few cut.0 in
-    let short : length (flat_map (job_part version) jobs ++ index) ≤ 16777216 =
+    let short : length (flat_map (job_part version) jobs ++ index) ≤ MAX_IMAGE =
     omega (arith, image.small, ap length image.written, length-append (head_of version (length jobs) (length bytes)) (flat_map (job_part version) jobs ++ index)) in
     let same = (same_items (job_part version) (λ job. job) (fits version) (job_tells version) jobs others index other_index image.counted also.counted counted short cut.1).0 in
     sym (map-id jobs) ∙ same ∙ map-id others

@@ -25,6 +25,7 @@ use Rattle.up_image.specs.Texts.{text_part}
 use Rattle.up_image.specs.Versions.{fits_reload}
 use Rattle.up_image.specs.declared.version.Version.{Version}
 use Rattle.up_image.specs.declared.version.Version.TheVariants as versions
+use Rattle.up_image.specs.declared.limits.TheConstants.{MAX_IMAGE, MAX_ITEMS}
 use Rattle.up_image.proofs.Prefixes.{Tells, any, all_any, same_four, same_text, text_tells, both_tell, of_tells, also_tells, list_tells}
 
 -- a list of things whose parts tell all of them
@@ -39,7 +40,7 @@ items_tell {X = X} {part = part} tell = record {
 value_tells : Tells image.value_part (λ value. value) any
 value_tells = record { tells = by_case }
   where
-    by_case : (x y : Option (List ℕ)) (r s : List ℕ) → true ≡ true → true ≡ true → length (image.value_part x ++ r) ≤ 16777216
+    by_case : (x y : Option (List ℕ)) (r s : List ℕ) → true ≡ true → true ≡ true → length (image.value_part x ++ r) ≤ MAX_IMAGE
         → image.value_part x ++ r ≡ image.value_part y ++ s → (x ≡ y) × (r ≡ s)
     by_case None None r s tx ty small is = (refl, ap (drop 1) is)
     by_case None (Some w) r s tx ty small is = absurd (cc)
@@ -56,7 +57,7 @@ setting_tells =
 exit_tells : Tells image.exit_part (λ exit. exit) any
 exit_tells = record { tells = by_case }
   where
-    by_case : (x y : Exit) (r s : List ℕ) → true ≡ true → true ≡ true → length (image.exit_part x ++ r) ≤ 16777216
+    by_case : (x y : Exit) (r s : List ℕ) → true ≡ true → true ≡ true → length (image.exit_part x ++ r) ≤ MAX_IMAGE
         → image.exit_part x ++ r ≡ image.exit_part y ++ s → (x ≡ y) × (r ≡ s)
     by_case (exit.Status n) (exit.Status m) r s tx ty small is = let e : n ≡ m = cc in (ap exit.Status e, ap (drop 2) is)
     by_case (exit.Status n) (exit.Signal m) r s tx ty small is = absurd (cc)
@@ -67,7 +68,7 @@ exit_tells = record { tells = by_case }
 action_tells : Tells image.action_part (λ action. action) image.fits_action
 action_tells = record { tells = by_case }
   where
-    by_case : (x y : Option Action) (r s : List ℕ) → image.fits_action x ≡ true → image.fits_action y ≡ true → length (image.action_part x ++ r) ≤ 16777216
+    by_case : (x y : Option Action) (r s : List ℕ) → image.fits_action x ≡ true → image.fits_action y ≡ true → length (image.action_part x ++ r) ≤ MAX_IMAGE
         → image.action_part x ++ r ≡ image.action_part y ++ s → (x ≡ y) × (r ≡ s)
     by_case None None r s tx ty small is = (refl, ap (drop 1) is)
     by_case None (Some (Words ws)) r s tx ty small is = absurd (cc)
@@ -88,7 +89,7 @@ pair_tells = also_tells any (λ (p : List ℕ × List ℕ). p) (λ x is. refl) (
 test_tells : Tells image.test_part (λ test. test) any
 test_tells = record { tells = by_case }
   where
-    by_case : (x y : Test) (r s : List ℕ) → true ≡ true → true ≡ true → length (image.test_part x ++ r) ≤ 16777216
+    by_case : (x y : Test) (r s : List ℕ) → true ≡ true → true ≡ true → length (image.test_part x ++ r) ≤ MAX_IMAGE
         → image.test_part x ++ r ≡ image.test_part y ++ s → (x ≡ y) × (r ≡ s)
     by_case (Place v) (Place w) r s tx ty small is = let got = same_text v w r s (omega (arith, small)) (ap (drop 1) is) in (ap Place got.0, got.1)
     by_case (Place v) (Same l w) r s tx ty small is = absurd (cc)
@@ -116,7 +117,7 @@ kind (node.Or left right) = node.Or 0 0
 node_tells : Tells image.node_part kind image.fits_node
 node_tells = record { tells = by_case }
   where
-    by_case : (x y : Node) (r s : List ℕ) → image.fits_node x ≡ true → image.fits_node y ≡ true → length (image.node_part x ++ r) ≤ 16777216
+    by_case : (x y : Node) (r s : List ℕ) → image.fits_node x ≡ true → image.fits_node y ≡ true → length (image.node_part x ++ r) ≤ MAX_IMAGE
         → image.node_part x ++ r ≡ image.node_part y ++ s → (kind x ≡ kind y) × (r ≡ s)
     by_case (node.Leaf v) (node.Leaf w) r s tx ty small is =
         let got = leaf_tells.tells v w r s tx ty (omega (arith, small)) (ap (drop 1) is) in (ap node.Leaf got.0, got.1)
@@ -163,11 +164,11 @@ condition_tells = record {
       (same_tree c d got.0, got.1);
 }
   where
-    countable : (c : Option Tree) → image.fits_condition c ≡ true → (nat_le (length (image.nodes_in c)) 65535 && list_all image.fits_node (image.nodes_in c)) ≡ true
+    countable : (c : Option Tree) → image.fits_condition c ≡ true → (nat_le (length (image.nodes_in c)) MAX_ITEMS && list_all image.fits_node (image.nodes_in c)) ≡ true
     countable None fit = refl
     countable (Some tree) fit =
         let parts = and_parts (nat_le (size tree) 4095) (list_all image.fits_node (nodes_of 0 tree)) fit in
-        let short : nat_le (length (nodes_of 0 tree)) 65535 ≡ true = le-leb (length (nodes_of 0 tree)) 65535 (omega (arith, length_nodes 0 tree, leb-true (size tree) 4095 parts.0)) in
+        let short : nat_le (length (nodes_of 0 tree)) MAX_ITEMS ≡ true = le-leb (length (nodes_of 0 tree)) MAX_ITEMS (omega (arith, length_nodes 0 tree, leb-true (size tree) 4095 parts.0)) in
         rw (short, parts.1) refl
 
 -- the flags
