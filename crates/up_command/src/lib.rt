@@ -7,3 +7,5 @@ mod noted;
 pub mod run_command;
 
 pub use command::{Invocation, parse_args, print_refusal};
+pub use up_run::{ReportOptions, Rounds};
+pub use up_tools::{Kind, View};

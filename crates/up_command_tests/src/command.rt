@@ -1,10 +1,8 @@
 //! What command lines ask for.
 use std::alloc::{AllocError, Global};
 use std::test::Fail;
-use up_command::{Invocation, parse_args, print_refusal};
-use up_run::{ReportOptions, Rounds};
+use up_command::{Invocation, Kind, ReportOptions, Rounds, View, parse_args, print_refusal};
 use up_text::{Env, Text};
-use up_tools::{Kind, View};
 
 // What a command line gives: what it asks for, or the status or the text of its refusal.
 enum Wanted {
