@@ -1,75 +1,40 @@
 -- What a ledger stands for, one entry or one run of entries later.
-use Rattle.std.proofs.Common.{◌≡◌, inl, ℕ, ◌+◌, ◌<◌, ◌==◌, ◌&&◌, Bool, true, false, List, [], ◌∷◌, ◌++◌, length, map, Option, None, Some, is_some, option_map, bytes_eq, if◌then◌else◌, refl, sym, ◌∙◌, ap, subst, arith, eqb-true, append_assoc}
-use Rattle.std.specs.List.{AllByRecursion}
-use Rattle.up_conf.specs.declared.job.JobDef.{JobDef}
-use Rattle.up_stanza.specs.declared.process.Process.{Process}
-use Rattle.up_model.specs.declared.event.Event.{Event}
-use Rattle.up_model.specs.declared.failure.Failure.{Failure}
-use Rattle.up_model.specs.declared.input.Input.{Input}
+use Rattle.up_ledger.proofs.Names.{◌≡◌, inl, ℕ, ◌<◌, ◌==◌, Bool, true, false, List, [], ◌∷◌, ◌++◌, length, map, Option}
+use Rattle.up_ledger.proofs.Names.{None, Some, option_map, bytes_eq, if◌then◌else◌, refl, sym, ◌∙◌, ap, subst, arith}
+use Rattle.up_ledger.proofs.Names.{append_assoc, AllByRecursion, JobDef, Process, LiveEvent, Event, EventId, Failure}
+use Rattle.up_ledger.proofs.Names.{Input, Output, State, Chronicle, Entry, Given, Queued, Made, Released, Failed}
+use Rattle.up_ledger.proofs.Names.{Entered, Ordered, Signalled, Replied, Outside, Configuration, job_named, Instance}
+use Rattle.up_ledger.proofs.Names.{with_instance, instances_of, all_instances, outputs_of, is_waiting, queue, Live}
+use Rattle.up_ledger.proofs.Names.{entry_at, file_of, holders, id_of, id_at, answering, answering_waiter, releasing}
+use Rattle.up_ledger.proofs.Names.{if_waits, request_in, request_instance, status_if, status_of, waiter_in, Bytes}
+use Rattle.up_ledger.proofs.Names.{count, bytes_same, releasing-all, same-append, InstanceKey, JobInstances}
+use Rattle.up_ledger.proofs.Names.{new_instance, position_at, job_of, nth, Place, Holders, Taken, Client, Nobody}
+use Rattle.up_ledger.proofs.Names.{IsFound, AreFound, AreDistinct, Stepping, job_at, instance_place, request_place}
+use Rattle.up_ledger.proofs.Names.{held_as, listed, order_by, signal_by, status_by, Summary, holding_at, Places, view}
+use Rattle.up_ledger.proofs.Names.{holding_of, kept_in, kept_at, place-keyed, job-there, There, there, its-file}
+use Rattle.up_ledger.proofs.Names.{named-there, Ledger, Past, ActedOn, Exists, Asked, asked_in, asked_of, waiter_of}
+use Rattle.up_ledger.proofs.Names.{number_of, place_of, held_by_kept, AreLeaves, Stands, replies_to, OnMeans, moved_on}
+use Rattle.up_ledger.proofs.Names.{after_made, Forgets, Asks}
 use Rattle.up_model.specs.declared.input.Input.TheVariants as input
-use Rattle.up_model.specs.declared.output.Output.{Output}
-use Rattle.up_model.specs.declared.output.Output.TheVariants as output
-use Rattle.up_model.specs.declared.state.State.{State}
 use Rattle.up_model.specs.declared.state.State.TheVariants as state
-use Rattle.up_model.specs.Chronicle.{Chronicle, Entry, Given, Queued, Made, Released, Failed, Entered, Ordered, Signalled, Replied, Outside, Entering}
-use Rattle.up_model.specs.Configuration.{Configuration, job_named}
-use Rattle.up_model.specs.Instances.{Instance, with_instance, instances_of, all_instances}
-use Rattle.up_model.specs.Outputs.{outputs_of}
-use Rattle.up_model.specs.Queue.{queue}
-use Rattle.up_model.specs.Readings.{entry_at, file_of, holders, id_of, id_at}
-use Rattle.up_model.specs.Replies.{answering, answering_waiter, releasing, if_waits, request_in, request_instance, status_if, status_of, waiter_in}
-use Rattle.up_model.specs.Values.{Bytes}
-use Rattle.up_model.proofs.Places.{count, bytes_same, all-without}
+use Rattle.up_model.proofs.Places.{all-without}
 use Rattle.up_model.proofs.NameLaws.{all-with}
-use Rattle.up_job.specs.InstanceLists.{new_instance}
-use Rattle.up_job.specs.JobLists.{position_at, job_of}
-use Rattle.up_job.specs.Lists.{nth}
 use Rattle.up_job.specs.declared.instance.Instance.{Instance as Kept}
-use Rattle.up_job.specs.declared.instance_key.InstanceKey.{InstanceKey}
-use Rattle.up_job.specs.declared.instances.JobInstances.{JobInstances}
-use Rattle.up_image.specs.declared.index.Place.{Place}
-use Rattle.up_ledger.specs.declared.ledger.Ledger.{Ledger}
-use Rattle.up_ledger.specs.declared.past.Past.{Past}
-use Rattle.up_ledger.specs.declared.step.ActedOn.{ActedOn}
-use Rattle.up_ledger.specs.declared.step.ActedOn.TheVariants.{Exists, Gone}
-use Rattle.up_ledger.specs.declared.step.Asked.{Asked}
-use Rattle.up_ledger.specs.Asking.{asked_in, asked_of, waiter_of}
-use Rattle.up_ledger.specs.Eventing.{number_of, place_of}
-use Rattle.up_book.specs.Hearers.{IsFound, AreFound, HasIndex}
-use Rattle.up_ledger.specs.Holding.{held_by_kept}
-use Rattle.up_model.specs.Predicates.{is_waiting}
-use Rattle.up_book.specs.Keeps.{AreDistinct, HoldsOlder}
-use Rattle.up_book.specs.Keys.{Mode, Stepping, job_at, instance_place, request_place, held_as}
-use Rattle.up_book.specs.declared.holders.Holders.{Holders}
-use Rattle.up_book.specs.declared.holders.Holders.TheVariants.{Taken, Client, Nobody}
-use Rattle.up_event.specs.declared.live.LiveEvent.{LiveEvent}
-use Rattle.up_model.specs.declared.event_id.EventId.{EventId}
-use Rattle.up_model.specs.Queue.{Live}
-use Rattle.up_model.proofs.ReplyLaws.{releasing-all}
-use Rattle.up_model.proofs.Sparing.{same-append}
-use Rattle.up_ledger.specs.Ledgers.{AreLeaves, IsStepIn, Stands}
-use Rattle.up_ledger.specs.Replying.{replies_to}
-use Rattle.up_ledger.specs.Requesting.{OnMeans, IsGone, same_key, on_left, moved_on, after_made, after_left}
-use Rattle.up_book.specs.Sending.{listed, order_by, signal_by, status_by, IsOrder, IsSignal}
-use Rattle.up_ledger.specs.Standing.{Forgets}
+use Rattle.up_book.specs.Keys.{Mode}
+use Rattle.up_ledger.specs.Ledgers.{IsStepIn}
+use Rattle.up_book.specs.Sending.{IsOrder, IsSignal}
 use Rattle.up_ledger.specs.Standing as standing
-use Rattle.up_ledger.specs.Steps.{Asks}
-use Rattle.up_book.specs.Summaries.{Summary, holding_at}
-use Rattle.up_book.specs.Views.{Places, view, holding_of, kept_in, kept_at}
 use Rattle.up_ledger.proofs.Beginning.{new-blank}
-use Rattle.up_ledger.proofs.Entering.{older-after, place-older}
+use Rattle.up_ledger.proofs.Entering.{place-older}
 use Rattle.up_ledger.proofs.Frames.{holding-later}
-use Rattle.up_book.proofs.Keyed.{place-keyed, job-there}
-use Rattle.up_ledger.proofs.Leaving.{forgets-answered, forgets-gone}
+use Rattle.up_ledger.proofs.Leaving.{forgets-answered}
 use Rattle.up_ledger.proofs.Making.{position-so}
-use Rattle.up_ledger.proofs.Lifecycle.{keeps-made, keeps-left}
-use Rattle.up_book.proofs.One.{There, there, its-file}
-use Rattle.up_ledger.proofs.Outgoing.{IsSilent, entering-out, ordered-out, signalled-out, silent-out, status-known}
-use Rattle.up_book.proofs.Tables.{named-there}
-use Rattle.up_ledger.proofs.Requested.{IsPlain, Mentions, status-apart, status-left, left-gone, other-gone, gone-later, on-later}
+use Rattle.up_ledger.proofs.Lifecycle.{keeps-made}
+use Rattle.up_ledger.proofs.Outgoing.{IsSilent, ordered-out, signalled-out, silent-out, status-known}
+use Rattle.up_ledger.proofs.Requested.{IsPlain, Mentions, status-apart, status-left, other-gone, on-later}
 use Rattle.up_ledger.proofs.Runs.{IsMild, step-released}
 use Rattle.up_ledger.proofs.Standing.{same-entry}
-use Rattle.up_ledger.proofs.Shifting.{kept-name, key-made, key-left}
+use Rattle.up_ledger.proofs.Shifting.{kept-name, key-made}
 use Rattle.up_ledger.proofs.StepFrames.{Spares, IsUnasked, asks-same, step-silent, step-more, there-exists}
 
 same-job : {a b : JobDef} → Some a ≡ Some b → a ≡ b
@@ -193,11 +158,11 @@ named-job past config c key i t f =
     ap (option_map job_of) j.1 ∙ ap Some (its.2 ∙ ap (λ (job : JobDef). job.name) one)
 
 -- holders that are let go
-kept-holders : (past : Past) (config : Configuration) (c : Chronicle) (key : InstanceKey) (i : ℕ) (t : There (place_of past.events (queue c)) past.instances config c key i)
+pub kept-holders : (past : Past) (config : Configuration) (c : Chronicle) (key : InstanceKey) (i : ℕ) (t : There (place_of past.events (queue c)) past.instances config c key i)
     → map (holding_of (place_of past.events (queue c))) t.kept.holders ≡ map (holding_at c) (holders i c)
 kept-holders past config c key i t = ap (λ (s : Summary). s.holders) t.same ∙ ap (λ p. map (holding_at c) (holders p c)) t.place
 
-held-outputs : (past : Past) (config : Configuration) (c : Chronicle) (key : InstanceKey) (i : ℕ) (t : There (place_of past.events (queue c)) past.instances config c key i) (before : List Output) (failed : Bool) (told : Bytes)
+pub held-outputs : (past : Past) (config : Configuration) (c : Chronicle) (key : InstanceKey) (i : ℕ) (t : There (place_of past.events (queue c)) past.instances config c key i) (before : List Output) (failed : Bool) (told : Bytes)
     → before ++ replies_to (held_by_kept (kept_at key past.instances)) failed told ≡ before ++ replies_to t.kept.holders failed told
 held-outputs past config c key i t before failed told = ap (λ (k : Option Kept). before ++ replies_to (held_by_kept k) failed told) t.found
 
@@ -224,97 +189,6 @@ failed-so outputs asked on past next config c key i failure told f next_f found 
     (step-released outputs asked on (place_of past.events (queue c)) config (e ∷ c) i true t.kept.holders told (next_f.lives.older i)
     (kept-holders past config c key i t ∙ sym (holding-later e c (holders i c) (f.lives.older i)))
     (status-apart i e c refl (older-so past config c key i f found) ∙ sym text) between)
-
--- an instance leaves
-key-eq : (key other : InstanceKey) → same_key key other ≡ true → key ≡ other
-key-eq key other same = both (key.job == other.job) (key.at == other.at) refl refl same
-  where
-    both : (a b : Bool) → (key.job == other.job) ≡ a → (key.at == other.at) ≡ b → (a && b) ≡ true → key ≡ other
-    both true true job at is =
-        let jobs : key.job ≡ other.job = eqb-true key.job other.job job in
-        let places : key.at ≡ other.at = eqb-true key.at other.at at in
-        let make : ℕ → ℕ → InstanceKey = λ j a. record { job = j; at = a } in
-        ap (λ j. make j key.at) jobs ∙ ap (λ a. make other.job a) places
-    both true false job at is = absurd cc
-    both false b job at is = absurd cc
-
-key-refl : (key : InstanceKey) (other : InstanceKey) → same_key key other ≡ false → key.job ≡ other.job → key.at ≡ other.at → ⊥
-key-refl key other differs job at = absurd_by (Rattle.std.proofs.Common.eq-eqb key.job other.job job) (Rattle.std.proofs.Common.eq-eqb key.at other.at at)
-  where
-    absurd_by : (key.job == other.job) ≡ true → (key.at == other.at) ≡ true → ⊥
-    absurd_by a b =
-        let yes : same_key key other ≡ true = rw (a, b) refl in
-        let both : true ≡ false = sym yes ∙ differs in
-        absurd cc
-
-some-place : {a b : ℕ} → Some a ≡ Some b → a ≡ b
-some-place e = cc
-
-pub left-on : (past : Past) (config : Configuration) (c : Chronicle) (key : InstanceKey) (i : ℕ) (told : Bytes) (on : Option ActedOn) → Forgets past config c → instance_place config c key ≡ Some i
-    → told ≡ status_of i (Entered i state.Waiting ∷ c) → OnMeans config c on → OnMeans config (Entered i state.Waiting ∷ c) (on_left key told on)
-left-on past config c key i told None f found text means = means
-left-on past config c key i told (Some (Gone other)) f found text means =
-    let gone : IsGone means.0 c = means.3 in
-    let e = Entered i state.Waiting in
-    (means.0, means.1, status-apart means.0 e c (other-gone means.0 i c gone (exists-so past config c key i f found)) gone.0 ∙ means.2, gone-later means.0 e c gone)
-left-on past config c key i told (Some (Exists on)) f found text means = by_case (same_key on key) refl
-  where
-    e : Entry
-    e = Entered i state.Waiting
-
-    places : Places
-    places = place_of past.events (queue c)
-
-    t : There places past.instances config c key i
-    t = there-so past config c key i f found
-
-    moved : (on.job ≡ key.job → on.at ≡ key.at → ⊥) → instance_place config (e ∷ c) (after_left key.job key.at on) ≡ Some means.0
-    moved apart =
-        let keeps = keeps-left places past.instances config c key.job key.at t.job t.its f.lives.jobs f.lives.distinct t.in_jobs f.lives.older t.in_instances in
-        let d : Chronicle = Entered t.its.place state.Waiting ∷ c in
-        let stands = key-left places past.instances config c key.job key.at t.job t.its on means.0 f.lives.jobs f.lives.distinct t.in_jobs t.in_instances apart (keyed past config c on means.0 f means.2) in
-        subst (λ p. instance_place config (Entered p state.Waiting ∷ c) (after_left key.job key.at on) ≡ Some means.0) t.place
-        (sym (place-keyed places _ config d (after_left key.job key.at on) keeps) ∙ stands)
-
-    by_case : (b : Bool) → same_key on key ≡ b → OnMeans config (e ∷ c) (Some (if b then Gone told else Exists (after_left key.job key.at on)))
-    by_case true same =
-        let keys : on ≡ key = key-eq on key same in
-        let one : i ≡ means.0 = some-place (sym found ∙ ap (instance_place config c) (sym keys) ∙ means.2) in
-        (i, means.1 ∙ ap Some (sym one), sym text, left-gone i c (older-so past config c key i f found))
-    by_case false differs = (means.0, means.1, moved (key-refl on key differs))
-
-pub step-left : (outputs : List Output) (asked : Option Asked) (on : Option ActedOn) (past : Past) (config : Configuration) (c : Chronicle) (key : InstanceKey) (i : ℕ) (told : Bytes) → Forgets past config c → instance_place config c key ≡ Some i
-    → told ≡ status_of i (Entered i state.Waiting ∷ c) → Asks outputs asked on config c → Asks outputs asked (on_left key told on) config (Entered i state.Waiting ∷ c)
-step-left outputs asked on past config c key i told f found text s = record {
-  outputs = s.outputs ∙ sym (silent-out config c (Entered i state.Waiting) tt);
-  asked = s.asked;
-  on = left-on past config c key i told on f found text s.on;
-  unheld = s.unheld;
-}
-
--- with its last event, and lets its holders go
-pub step-leaves : (outputs : List Output) (asked : Option Asked) (on : Option ActedOn) (past : Past) (config : Configuration) (c : Chronicle) (key : InstanceKey) (i : ℕ) (told : Bytes) (event : Event) → Forgets past config c
-    → instance_place config c key ≡ Some i → told ≡ status_of i (Entered i state.Waiting ∷ c) → Asks outputs asked on config c
-    → (let d : Chronicle = Queued (Entering i state.Waiting) event ∷ Entered i state.Waiting ∷ c in
-    Asks ((outputs ++ output.Emitted event ∷ []) ++ replies_to (held_by_kept (kept_at key past.instances)) false told) asked (on_left key told on) config (releasing i false d ++ d))
-step-leaves outputs asked on past config c key i told event f found text s =
-    let t = there-so past config c key i f found in
-    let first : Entry = Entered i state.Waiting in
-    let e : Entry = Queued (Entering i state.Waiting) event in
-    let b : Chronicle = first ∷ c in
-    let d : Chronicle = e ∷ b in
-    let acted = on_left key told on in
-    let left : Asks outputs asked acted config b = step-left outputs asked on past config c key i told f found text s in
-    let outs = outputs ++ output.Emitted event ∷ [] in
-    let emitted : Asks outs asked acted config d = step-more outputs (output.Emitted event ∷ []) asked acted config b e tt tt (calm config b e (λ job. refl) (λ j. refl) (λ j. refl)) (entering-out config b i state.Waiting event) left in
-    let older = older-so past config c key i f found in
-    let older_b : HoldsOlder i b = older-after first c tt f.lives.older i in
-    let older_d : HoldsOlder i d = older-after e b tt (older-after first c tt f.lives.older) i in
-    let same : map (holding_of (place_of past.events (queue c))) t.kept.holders ≡ map (holding_at d) (holders i c) =
-    kept-holders past config c key i t ∙ sym (holding-later first c (holders i c) (f.lives.older i)) ∙ sym (holding-later e b (holders i c) older_b) in
-    let words : status_of i d ≡ told = status-apart i e b refl (omega (arith, older)) ∙ sym text in
-    asks-same (outs ++ replies_to t.kept.holders false told) _ asked asked acted acted config (releasing i false d ++ d) (held-outputs past config c key i t outs false told) refl refl
-    (step-released outs asked acted (place_of past.events (queue c)) config d i false t.kept.holders told older_d same words emitted)
 
 -- an instance was made
 pub step-made : (outputs : List Output) (asked : Option Asked) (on : Option ActedOn) (past : Past) (config : Configuration) (c : Chronicle) (place : ℕ) (job : JobDef) (name : Bytes) → Forgets past config c → nth place config.jobs ≡ Some job
@@ -367,15 +241,6 @@ waiter-known c given event =
     number-waits (length c) (Queued (Outside (length c)) event ∷ Given given ∷ c) given
     (same-entry (Queued (Outside (length c)) event) (Given given ∷ c) (length c) (omega arith)
     ∙ ap (λ b. if b then Some (Given given) else entry_at (length c) c) (Rattle.std.proofs.Common.eq-eqb (length c) (length c) refl))
-
--- one that has left lets its holders go
-pub forgets-left-released : (old past : Past) (config : Configuration) (c : Chronicle) (key : InstanceKey) (i : ℕ) (event : Event) → Forgets old config c → instance_place config c key ≡ Some i
-    → (let d : Chronicle = Queued (Entering i state.Waiting) event ∷ Entered i state.Waiting ∷ c in Forgets past config d → Forgets past config (releasing i false d ++ d))
-forgets-left-released old past config c key i event f found after =
-    let first : Entry = Entered i state.Waiting in
-    let e : Entry = Queued (Entering i state.Waiting) event in
-    let gone : IsGone i (e ∷ first ∷ c) = gone-later i e (first ∷ c) (left-gone i c (older-so old config c key i f found)) in
-    forgets-released past config (e ∷ first ∷ c) i false (forgets-gone past config (e ∷ first ∷ c) i after gone)
 
 -- what clients read of an instance
 kept-same : {a b : Kept} → Some a ≡ Some b → a ≡ b

@@ -1,3 +1,4 @@
+pub mod Names
 pub mod Frames
 pub mod Steps
 pub mod Named
@@ -42,6 +43,7 @@ pub mod Deaf
 pub mod Loading
 pub mod LoadedLedgers
 pub mod Ledgers
+pub mod LeftLedgers
 pub mod Acting
 pub mod Blocking
 pub mod Overdue

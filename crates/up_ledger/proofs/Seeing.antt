@@ -1,44 +1,25 @@
 -- What is kept after an offer, and after an expression has fired.
-use Rattle.std.proofs.Common.{◌≡◌, ℕ, zero, suc, ◌+◌, ◌≤◌, ◌==◌, Bool, true, false, List, [], ◌∷◌, ◌++◌, length, map, replicate, Option, None, Some, is_some, if◌then◌else◌, refl, sym, ◌∙◌, ap, subst, arith, eq-eqb}
-use Rattle.up_conf.specs.declared.job.JobDef.{JobDef}
-use Rattle.up_event.specs.LiveEvents.{named, with_hold}
-use Rattle.up_event.specs.declared.live.LiveEvent.{LiveEvent}
-use Rattle.up_job.specs.JobLists.{changed_in, changed_at}
-use Rattle.up_job.specs.Lending.{with_stop_on}
-use Rattle.up_job.specs.Lists.{nth, with_at}
+use Rattle.up_ledger.proofs.Names.{◌≡◌, ℕ, ◌==◌, Bool, true, false, List, [], ◌∷◌, ◌++◌, length, map, Option, None}
+use Rattle.up_ledger.proofs.Names.{Some, if◌then◌else◌, refl, sym, ◌∙◌, ap, subst, arith, zero, suc, ◌+◌, ◌≤◌}
+use Rattle.up_ledger.proofs.Names.{replicate, is_some, eq-eqb, JobDef, Sight, LiveEvent, named, with_hold, EventId}
+use Rattle.up_ledger.proofs.Names.{Chronicle, Entry, Expression, Offered, Fired, StartOn, StopOn, Configuration}
+use Rattle.up_ledger.proofs.Names.{is_spoilt, Instance, instances_of, queue, file_of, event_at, Bytes, Bindings}
+use Rattle.up_ledger.proofs.Names.{bytes_refl, queue_by_age, InstanceKey, JobInstances, changed_in, changed_at, list_of}
+use Rattle.up_ledger.proofs.Names.{with_stop_on, nth, with_at, Mark, Offer, Firing, sight_of, naming_in, Remembers}
+use Rattle.up_ledger.proofs.Names.{kept_by, uses_by, seen_own, Keeps, AreOlder, Places, view, job_view, cons_same}
+use Rattle.up_ledger.proofs.Names.{There, there, its-file, IsKnown, known-all, nth-all, Past, one_if, holder_uses, uses}
+use Rattle.up_ledger.proofs.Names.{start_uses, place_of, Standing, standing_of, holds_of, Hears, Fires, trigger_in}
+use Rattle.up_ledger.proofs.Names.{trigger_at, trigger_of, freed, all_changed, as_holders, AllLive, MayFollow}
+use Rattle.up_ledger.proofs.Names.{InstancesRemember, StopsRemember, StartsRemember, Remembered, Forgets, event_place}
 use Rattle.up_job.specs.declared.instance.Instance.{Instance as Kept}
-use Rattle.up_job.specs.declared.instance_key.InstanceKey.{InstanceKey}
-use Rattle.up_job.specs.declared.instances.JobInstances.{JobInstances}
-use Rattle.up_marks.specs.Agreeing.{sight_of}
-use Rattle.up_marks.specs.Triggers.{Remembers, kept_by, uses_by}
-use Rattle.up_marks.specs.declared.mark.Mark.{Mark}
-use Rattle.up_model.specs.Chronicle.{Chronicle, Entry, Expression, Offered, Fired, StartOn, StopOn}
 use Rattle.up_model.specs.Clock as clock
-use Rattle.up_model.specs.Configuration.{Configuration}
-use Rattle.up_model.specs.Held.{is_spoilt}
-use Rattle.up_model.specs.Instances.{Instance, instances_of}
-use Rattle.up_model.specs.Queue.{queue}
-use Rattle.up_model.specs.Readings.{event_at, env, file_of}
+use Rattle.up_model.specs.Readings.{env}
 use Rattle.up_model.specs.Seen as seen
-use Rattle.up_model.specs.declared.event_id.EventId.{EventId}
 use Rattle.up_model.specs.Environments.{env_of_job}
-use Rattle.up_model.proofs.Places.{bytes_refl}
-use Rattle.up_model.proofs.QueueLaws.{queue_by_age}
-use Rattle.up_ledger.specs.declared.past.Past.{Past}
-use Rattle.up_ledger.specs.Counting.{one_if, holder_uses, uses, start_uses}
-use Rattle.up_ledger.specs.Eventing.{Standing, standing_of, place_of, holds_of}
-use Rattle.up_ledger.specs.Hearing.{Hears, Fires, trigger_in, trigger_at, trigger_of}
-use Rattle.up_ledger.specs.Holding.{freed, all_changed, as_holders, AllLive}
-use Rattle.up_book.specs.Keeps.{Keeps, AreOlder}
-use Rattle.up_ledger.specs.Regular.{MayFollow}
-use Rattle.up_ledger.specs.Remembering.{InstancesRemember, StopsRemember, StartsRemember, Remembered}
-use Rattle.up_ledger.specs.Standing.{Forgets, event_place, instance_place}
-use Rattle.up_book.specs.Views.{Places, view, job_view}
+use Rattle.up_ledger.specs.Standing.{instance_place}
 use Rattle.up_ledger.proofs.Entering.{brought}
 use Rattle.up_ledger.proofs.Holds.{holds-all, frees-all, all-standings, all-places, mild-hold, mild-free}
 use Rattle.up_ledger.proofs.Leaving.{trigger-listed}
-use Rattle.up_book.proofs.Lists.{cons_same}
-use Rattle.up_book.proofs.One.{There, there, its-file, IsKnown, known-all, nth-all}
 use Rattle.up_ledger.proofs.Regulars.{regular-next}
 use Rattle.up_ledger.proofs.Sights.{SeenBy, remembered-stop, remembered-start}
 use Rattle.up_ledger.proofs.Standing.{age-all, standings-later}
@@ -49,13 +30,6 @@ use Rattle.up_ledger.proofs.Frames.{spared}
 use Rattle.up_ledger.proofs.Beginning.{blank-unused}
 use Rattle.up_ledger.proofs.Closing.{named-there}
 use Rattle.up_ledger.proofs.Finding.{standing-known}
-use Rattle.up_marks.proofs.SkipLemmas.{seen_own}
-use Rattle.up_marks.specs.Naming.{naming_in}
-use Rattle.up_marks.specs.declared.marks.Offer.{Offer}
-use Rattle.up_marks.specs.declared.trigger.Firing.{Firing}
-use Rattle.up_model.specs.Values.{Bytes, Bindings}
-use Rattle.up_expr.specs.Truth.{Sight}
-use Rattle.up_job.specs.JobLists.{list_of}
 
 -- what a trigger is isn't known of an instance
 unseen-view : (places : Places) (trigger : Option (List Mark)) (at : ℕ) (its : List Kept) → map (view places) (with_at at (with_stop_on trigger) its) ≡ map (view places) its

@@ -10,9 +10,9 @@ use Rattle.up_model.specs.declared.state.State.TheVariants.{Waiting}
 use Rattle.up_ledger.specs.Holding.{held_by_kept}
 use Rattle.up_ledger.specs.Replying.{replies_to}
 use Rattle.up_book.specs.Views.{kept_at}
-use Rattle.up_ledger.proofs.Ledgers.{keyed, step-leaves, forgets-left-released}
+use Rattle.up_ledger.proofs.LeftLedgers.{step-leaves, forgets-left-released}
 use Rattle.up_ledger.proofs.StepFrames.{asks-same}
-use Rattle.up_ledger.proofs.Ledgers.{found-same, found-left, mild-instances, stood}
+use Rattle.up_ledger.proofs.Ledgers.{keyed, found-same, found-left, mild-instances, stood}
 use Rattle.up_ledger.specs.Eventing.{place_of}
 use Rattle.up_ledger.proofs.Ledgers.{mild-queue}
 use Rattle.up_ledger.proofs.ledger.LedgerBook.leave.Goals as goal
