@@ -15,7 +15,7 @@ use up_book::Book;
 use up_cascade::Setup;
 use up_conf::Exit;
 use up_job::{InstanceKey, judge_end};
-use up_model::{End, Failure, How, JobDef, Process, Verdict, Who};
+use up_model::{End, EndRules, Failure, How, JobDef, Process, Verdict, Who};
 
 // The goal of an instance becomes stop of its own accord, if it is start.
 fn end_itself<B: Book>(book: &mut B, key: InstanceKey) -> Result<(), AllocError>
@@ -103,18 +103,13 @@ fn verdict_on_end<B: Book>(
 {
     let goal = book.goal(key);
     let state = book.state_of(key);
-    let normal = is_normal(job.normal.as_slice(), end);
-    let may = book.may_respawn(key);
-    judge_end(
-        goal,
-        state,
-        process,
-        end,
-        job.task,
-        job.respawn,
-        normal,
-        may,
-    )
+    let rules = EndRules {
+        is_task: job.task,
+        respawns: job.respawn,
+        is_normal: is_normal(job.normal.as_slice(), end),
+        may_respawn: book.may_respawn(key),
+    };
+    judge_end(goal, state, process, end, rules)
 }
 
 // The verdict on an end by the file of its instance, if that exists.

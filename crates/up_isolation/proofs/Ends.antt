@@ -93,7 +93,8 @@ may-same limit i j c d same today =
 verdict-same : (def : JobDef) (i j : ℕ) (its : Process) (end : End) (c d : Chronicle) → life i c ≡ life j d
     → now c ≡ now d → verdict_on_end def i its end c ≡ verdict_on_end def j its end d
 verdict-same def i j its end c d same today =
-    ap₂ (λ (l : Life) may. judge l.goal l.state its end def.task def.respawn (is_normal def.normal end) may)
+    ap₂ (λ (l : Life) may. judge l.goal l.state its end
+    (record { is_task = def.task; respawns = def.respawn; is_normal = is_normal def.normal end; may_respawn = may }))
     same (may-same def.limit i j c d same today)
 
 pub pair_end : (job : Bytes) (config : Configuration) (def : Option JobDef) (c d : Chronicle) (x y : Instance)

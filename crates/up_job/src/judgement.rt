@@ -5,7 +5,7 @@ ghost use Rattle.up_model.specs.Judgement as model;
 ghost use Rattle.up_model.specs.Predicates.{is_start};
 ghost use Rattle.up_stanza.specs.declared.process.Process.TheVariants as process;
 
-use up_model::{Cause, End, Failure, Goal, How, Process, State, Verdict};
+use up_model::{Cause, End, EndRules, Failure, Goal, How, Process, State, Verdict};
 
 fn failure_of(process: Process, how: Option<How>) -> Failure
     ensures { result ≡ model.failure_of process how }
@@ -26,10 +26,10 @@ fn is_success(how: How) -> bool
 }
 
 // Whether main is to be respawned, if it may be.
-fn is_respawned(how: How, task: bool, respawn: bool, normal: bool) -> bool
-    ensures { result ≡ model.is_respawned how task respawn normal }
+fn is_respawned(how: How, rules: EndRules) -> bool
+    ensures { result ≡ model.is_respawned how rules }
 {
-    respawn && !normal && !(task && is_success(how))
+    rules.respawns && !rules.is_normal && !(rules.is_task && is_success(how))
 }
 
 fn respawned(may: bool) -> Verdict
@@ -56,13 +56,13 @@ fn stopped_or_failed(how: How, normal: bool) -> Verdict
     }
 }
 
-fn judge_main(how: How, task: bool, respawn: bool, normal: bool, may: bool) -> Verdict
-    ensures { result ≡ model.judge_main how task respawn normal may }
+fn judge_main(how: How, rules: EndRules) -> Verdict
+    ensures { result ≡ model.judge_main how rules }
 {
-    if is_respawned(how, task, respawn, normal) {
-        respawned(may)
+    if is_respawned(how, rules) {
+        respawned(rules.may_respawn)
     } else {
-        stopped_or_failed(how, normal)
+        stopped_or_failed(how, rules.is_normal)
     }
 }
 
@@ -89,26 +89,16 @@ fn counts(goal: Goal, state: State) -> bool
     goal.is_start() && is_judged_in(state)
 }
 
-/// What the end or the refusal of a process does. `task` and `respawn` are whether the job has these stanzas, `normal` is whether
-/// `normal exit` lists the end, and `may` is whether the respawn limit allows one more (init(5)).
-pub fn judge_end(
-    goal: Goal,
-    state: State,
-    process: Process,
-    end: End,
-    task: bool,
-    respawn: bool,
-    normal: bool,
-    may: bool,
-) -> Verdict
-    ensures { result ≡ model.judge goal state process end task respawn normal may }
+/// What the end or the refusal of a process does to its instance.
+pub fn judge_end(goal: Goal, state: State, process: Process, end: End, rules: EndRules) -> Verdict
+    ensures { result ≡ model.judge goal state process end rules }
 {
     match (process, end) {
         (Process::PostStart, _) | (Process::PreStop, _) => Verdict::Note,
         (Process::Main, End::Refused) => Verdict::Fail(failure_of(Process::Main, None)),
         (Process::Main, End::Ended(how)) => {
             if counts(goal, state) {
-                judge_main(how, task, respawn, normal, may)
+                judge_main(how, rules)
             } else {
                 Verdict::Note
             }

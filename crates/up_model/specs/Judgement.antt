@@ -11,6 +11,7 @@ use Rattle.up_conf.specs.declared.job.JobDef.{JobDef}
 use Rattle.up_model.specs.declared.failure.Cause.TheVariants as cause
 use Rattle.up_model.specs.declared.failure.End.{End}
 use Rattle.up_model.specs.declared.failure.End.TheVariants.{Refused, Ended}
+use Rattle.up_model.specs.declared.failure.EndRules.{EndRules}
 use Rattle.up_model.specs.declared.failure.Failure.{Failure}
 use Rattle.up_model.specs.declared.failure.Verdict.{Verdict}
 use Rattle.up_model.specs.declared.failure.Verdict.TheVariants as verdict
@@ -40,14 +41,14 @@ abbrev pub too_many : Failure
 too_many = record { cause = cause.Respawn; how = None }
 
 -- whether main is to be respawned, if it may be: its end isn't normal, and isn't the success of a task
-abbrev pub is_respawned : How → (task respawn normal : Bool) → Bool
-is_respawned its task respawn normal = respawn && not normal && not (task && is_success its)
+abbrev pub is_respawned : How → EndRules → Bool
+is_respawned its rules = rules.respawns && not rules.is_normal && not (rules.is_task && is_success its)
 
 -- the end of main while it counts
-abbrev pub judge_main : How → (task respawn normal may : Bool) → Verdict
-judge_main its task respawn normal may =
-    if is_respawned its task respawn normal then (if may then verdict.Respawn else verdict.Fail too_many)
-    else (if is_success its || normal then verdict.Stop else verdict.Fail (failure_of Main (Some its)))
+abbrev pub judge_main : How → EndRules → Verdict
+judge_main its rules =
+    if is_respawned its rules then (if rules.may_respawn then verdict.Respawn else verdict.Fail too_many)
+    else (if is_success its || rules.is_normal then verdict.Stop else verdict.Fail (failure_of Main (Some its)))
 
 -- the end of another process whose failure counts: pre-start or post-stop
 abbrev pub judge_other : Process → How → Verdict
@@ -61,18 +62,16 @@ is_judged_in state.Running = true
 is_judged_in state.PreStop = true
 is_judged_in other = false
 
--- what an end does, by goal, state and process, and by whether the job is a task and is respawned, whether the end is normal
--- for it, and whether the limit allows a respawn
-abbrev pub judge : Goal → State → Process → End → (task respawn normal may : Bool) → Verdict
-judge aim now Main Refused task respawn normal may = verdict.Fail (failure_of Main None)
-judge aim now Main (Ended how) task respawn normal may =
-    if is_start aim && is_judged_in now then judge_main how task respawn normal may else verdict.Note
-judge aim now PreStart Refused task respawn normal may = verdict.Fail (failure_of PreStart None)
-judge aim now PreStart (Ended how) task respawn normal may = judge_other PreStart how
-judge aim now PostStart end task respawn normal may = verdict.Note
-judge aim now PreStop end task respawn normal may = verdict.Note
-judge aim now PostStop Refused task respawn normal may = verdict.Fail (failure_of PostStop None)
-judge aim now PostStop (Ended how) task respawn normal may = judge_other PostStop how
+-- what an end does, by goal, state and process
+abbrev pub judge : Goal → State → Process → End → EndRules → Verdict
+judge aim now Main Refused rules = verdict.Fail (failure_of Main None)
+judge aim now Main (Ended how) rules = if is_start aim && is_judged_in now then judge_main how rules else verdict.Note
+judge aim now PreStart Refused rules = verdict.Fail (failure_of PreStart None)
+judge aim now PreStart (Ended how) rules = judge_other PreStart how
+judge aim now PostStart end rules = verdict.Note
+judge aim now PreStop end rules = verdict.Note
+judge aim now PostStop Refused rules = verdict.Fail (failure_of PostStop None)
+judge aim now PostStop (Ended how) rules = judge_other PostStop how
 
 -- the end of a process as job files name ends
 abbrev pub exit_of : How → Exit
@@ -84,11 +83,19 @@ abbrev pub is_normal : List Exit → End → Bool
 is_normal exits Refused = false
 is_normal exits (Ended how) = list_any (same_exit (exit_of how)) exits
 
+-- what decides on an end of main, by the file of its instance
+abbrev pub rules_of : JobDef → ℕ → End → Chronicle → EndRules
+rules_of job instance end c = record {
+  is_task = job.task;
+  respawns = job.respawn;
+  is_normal = is_normal job.normal end;
+  may_respawn = may_respawn job.limit instance c;
+}
+
 -- what an end does to an instance of a job
 abbrev pub verdict_on_end : JobDef → ℕ → Process → End → Chronicle → Verdict
 verdict_on_end job instance process end c =
-    judge (read.goal instance c) (read.state_of instance c) process end
-    job.task job.respawn (is_normal job.normal end) (may_respawn job.limit instance c)
+    judge (read.goal instance c) (read.state_of instance c) process end (rules_of job instance end c)
 
 -- the goal becomes stop, if it is start; the holders stay
 abbrev pub end_itself : ℕ → Chronicle → List Entry

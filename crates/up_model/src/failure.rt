@@ -23,6 +23,19 @@ pub enum End {
     Ended(How),
 }
 
+/// What decides on the end of main, beside its instance's goal and state (init(5)).
+#[derive(Clone, Copy)]
+pub struct EndRules {
+    /// Whether the job is a `task`.
+    pub is_task: bool,
+    /// Whether it has `respawn`.
+    pub respawns: bool,
+    /// Whether its `normal exit` lists the end.
+    pub is_normal: bool,
+    /// Whether its `respawn limit` allows one more.
+    pub may_respawn: bool,
+}
+
 /// What the end of a process does to its instance.
 #[derive(Clone, Copy, Debug)]
 pub enum Verdict {

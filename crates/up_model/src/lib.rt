@@ -23,7 +23,7 @@ pub mod who;
 pub use event::Event;
 pub use event_id::EventId;
 pub use exit_status::ExitStatus;
-pub use failure::{Cause, End, Failure, Verdict};
+pub use failure::{Cause, End, EndRules, Failure, Verdict};
 pub use input::Input;
 pub use life::{EntryActions, JobEvent};
 pub use limits::{MAX_EVENTS, MAX_INSTANCES};
