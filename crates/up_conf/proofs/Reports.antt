@@ -35,8 +35,8 @@ faults_more spots faults spot (Some fault) before one =
 -- the faults of the files so far, with that of one more at their end
 pub faults_kept : (h : File → Option Spot) (files : List File) (i : ℕ) (file : File) (old new : List Fault) (fault : Option Fault) → i < length files → file ≡ get_or files i file → AreFaults (filter_map h (take i files)) old
     → IsFault (h file) fault → new ≡ old ++ option_to_list fault → AreFaults (filter_map h (take (i + 1) files)) new
-faults_kept h files i file old new fault inside at before told after =
-    let here : IsFault (h (get_or files i file)) fault = subst (λ (f : File). IsFault (h f) fault) at told in
+faults_kept h files i file old new fault inside at before one after =
+    let here : IsFault (h (get_or files i file)) fault = subst (λ (f : File). IsFault (h f) fault) at one in
     rw (after, filter_map_more h files i file inside) (faults_more (filter_map h (take i files)) old (h (get_or files i file)) fault before here)
 
 map-put_by : (fault : Fault) (faults : List Fault) → map spot_of (put_by (λ x y. is_below x.path y.path) fault faults) ≡ put_by (λ x y. is_below x.path y.path) (spot_of fault) (map spot_of faults)

@@ -50,8 +50,8 @@ fn override_bytes<'a>(
 
 // A file's fault, as it is reported.
 fn fault_in(path: &Text, fault: ConfFault) -> Result<Fault, AllocError>
-    ensures { IfOk result (λ told. IsFault (Some (record { path = path.now; line = fault.line }))
-        (Some told)) }
+    ensures { IfOk result (λ found. IsFault (Some (record { path = path.now; line = fault.line }))
+        (Some found)) }
 {
     if fault.code.number() > MAX_NUMBER {
         return Err(AllocError);
