@@ -11,10 +11,11 @@ use Rattle.up_expr.specs.Trees.{Tree, One, Both, Either}
 use Rattle.up_expr.proofs.Flattening.{length_nodes}
 use Rattle.up_image.specs.Definable.{are_leaves, is_leaf, is_node}
 use Rattle.up_image.specs.Image.{fits_condition, fits_node}
+use Rattle.up_image.specs.declared.limits.TheConstants.{MAX_NODES}
 
 pub fits_laid : (nodes : List Node) (tree : Tree) (fit : Bool) → IsFlat nodes tree → fit ≡ list_all fits_node nodes → fit ≡ fits_condition (Some tree)
 fits_laid nodes tree fit flat is =
-    let short : nat_le (size tree) 4095 ≡ true = le-leb (size tree) 4095 (omega (arith, length_nodes 0 tree, ap length flat.laid, flat.few)) in
+    let short : nat_le (size tree) MAX_NODES ≡ true = le-leb (size tree) MAX_NODES (omega (arith, length_nodes 0 tree, ap length flat.laid, flat.few)) in
     is ∙ ap (λ ns. list_all fits_node ns) flat.laid ∙ rw short refl
 
 sides_given : (left right : List Node) (top : Node) {a b : Bool} → is_node top ≡ true → list_all is_node left ≡ a → list_all is_node right ≡ b

@@ -24,7 +24,7 @@ use Rattle.up_image.specs.Compiling.{has_twice, read_paths}
 use Rattle.up_image.specs.Definable.{are_ascending, are_apart, are_exits, are_leaves, are_definable, can_await, is_definable, can_export, can_run, can_set, has_events, has_lists, has_numbers, has_processes, has_texts, is_exit, is_node, is_setting, is_shallow, is_test, is_word}
 use Rattle.up_image.specs.Image.{body_of, fits, fits_action, fits_condition, fits_lists, fits_node, fits_numbers, fits_processes, has_image, is_countable, is_short}
 use Rattle.up_image.specs.declared.version.Version.TheVariants.{Two}
-use Rattle.up_image.specs.declared.limits.TheConstants.{MAX_COUNT, MAX_IMAGE, MAX_ITEMS}
+use Rattle.up_image.specs.declared.limits.TheConstants.{MAX_COUNT, MAX_DEPTH, MAX_IMAGE, MAX_ITEMS, MAX_JOBS, MAX_KEYS, MAX_SECONDS}
 use Rattle.up_image.proofs.Fitting.{leaves_given}
 use Rattle.up_image.proofs.GivenJobs.{folder_given}
 
@@ -88,21 +88,21 @@ exits_fit xs is =
 
 numbers_fit : (job : JobDef) → has_numbers job ≡ true → fits_numbers Two job ≡ true
 numbers_fit job is =
-    let end = and_parts (nat_le job.limit.count MAX_COUNT && nat_le job.limit.interval 2147483647 && is_signal job.kill_signal && nat_le job.kill_timeout 2147483647) (is_signal job.reload_signal) is in
-    let last = and_parts (nat_le job.limit.count MAX_COUNT && nat_le job.limit.interval 2147483647 && is_signal job.kill_signal) (nat_le job.kill_timeout 2147483647) end.0 in
-    let front = and_parts (nat_le job.limit.count MAX_COUNT && nat_le job.limit.interval 2147483647) (is_signal job.kill_signal) last.0 in
-    let limit = and_parts (nat_le job.limit.count MAX_COUNT) (nat_le job.limit.interval 2147483647) front.0 in
-    and_from _ _ (and_from _ _ (and_from _ _ (le_more job.limit.count MAX_COUNT 4294967295 limit.0 (omega arith)) (le_more job.limit.interval 2147483647 4294967295 limit.1 (omega arith))) refl)
-    (le_more job.kill_timeout 2147483647 4294967295 last.1 (omega arith))
+    let end = and_parts (nat_le job.limit.count MAX_COUNT && nat_le job.limit.interval MAX_SECONDS && is_signal job.kill_signal && nat_le job.kill_timeout MAX_SECONDS) (is_signal job.reload_signal) is in
+    let last = and_parts (nat_le job.limit.count MAX_COUNT && nat_le job.limit.interval MAX_SECONDS && is_signal job.kill_signal) (nat_le job.kill_timeout MAX_SECONDS) end.0 in
+    let front = and_parts (nat_le job.limit.count MAX_COUNT && nat_le job.limit.interval MAX_SECONDS) (is_signal job.kill_signal) last.0 in
+    let limit = and_parts (nat_le job.limit.count MAX_COUNT) (nat_le job.limit.interval MAX_SECONDS) front.0 in
+    and_from _ _ (and_from _ _ (and_from _ _ (le_more job.limit.count MAX_COUNT 4294967295 limit.0 (omega arith)) (le_more job.limit.interval MAX_SECONDS 4294967295 limit.1 (omega arith))) refl)
+    (le_more job.kill_timeout MAX_SECONDS 4294967295 last.1 (omega arith))
 
 lists_fit : (job : JobDef) → has_lists job ≡ true → fits_lists job ≡ true
 lists_fit job is =
     let last = and_parts (can_set job.env && can_export job.export) (are_exits job.normal) is in
     let front = and_parts (can_set job.env) (can_export job.export) last.0 in
-    let set = and_parts (nat_le (length job.env) 60000 && list_all is_setting job.env) _ front.0 in
-    let exports = and_parts (nat_le (length job.export) 60000 && list_all _ job.export) _ front.1 in
-    and_from _ _ (and_from _ _ (le_more (length job.env) 60000 MAX_ITEMS (and_parts (nat_le (length job.env) 60000) _ set.0).0 (omega arith))
-    (le_more (length job.export) 60000 MAX_ITEMS (and_parts (nat_le (length job.export) 60000) _ exports.0).0 (omega arith)))
+    let set = and_parts (nat_le (length job.env) MAX_KEYS && list_all is_setting job.env) _ front.0 in
+    let exports = and_parts (nat_le (length job.export) MAX_KEYS && list_all _ job.export) _ front.1 in
+    and_from _ _ (and_from _ _ (le_more (length job.env) MAX_KEYS MAX_ITEMS (and_parts (nat_le (length job.env) MAX_KEYS) _ set.0).0 (omega arith))
+    (le_more (length job.export) MAX_KEYS MAX_ITEMS (and_parts (nat_le (length job.export) MAX_KEYS) _ exports.0).0 (omega arith)))
     (exits_fit job.normal last.1)
 
 action_fits : (action : Option Action) → can_run action ≡ true → fits_action action ≡ true
@@ -131,8 +131,8 @@ nodes_fit (node.Or left right ∷ nodes) is = nodes_fit nodes is
 condition_fits : (condition : Option Tree) → can_await condition ≡ true → fits_condition condition ≡ true
 condition_fits None is = refl
 condition_fits (Some tree) is =
-    let last = and_parts (are_leaves tree && is_shallow 256 tree) (is_short (Some tree)) is in
-    let front = and_parts (are_leaves tree) (is_shallow 256 tree) last.0 in
+    let last = and_parts (are_leaves tree && is_shallow MAX_DEPTH tree) (is_short (Some tree)) is in
+    let front = and_parts (are_leaves tree) (is_shallow MAX_DEPTH tree) last.0 in
     and_from _ _ last.1 (nodes_fit (nodes_of 0 tree) (leaves_given 0 tree ∙ front.0))
 
 -- a job that files can give fits
@@ -160,7 +160,7 @@ files_fit files apart =
     jobs_fit (jobs_of files) (and_parts (are_ascending (map (λ (job : JobDef). job.name) (jobs_of files))) (list_all is_definable (jobs_of files)) (folder_given files apart)).1
 
 -- so they have an image exactly if that isn't too long
-pub large_alone : (files : List File) → has_twice (read_paths files) ≡ false → nat_le (length (jobs_of files)) 1024 ≡ true
+pub large_alone : (files : List File) → has_twice (read_paths files) ≡ false → nat_le (length (jobs_of files)) MAX_JOBS ≡ true
     → has_image (jobs_of files) ≡ nat_le (12 + length (body_of Two (jobs_of files))) MAX_IMAGE
 unfolding has_image
 large_alone files apart few = rw (few, files_fit files apart) refl

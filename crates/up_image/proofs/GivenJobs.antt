@@ -23,6 +23,7 @@ use Rattle.up_conf.specs.Jobs.{last_or, fold_stanzas, instance_in, dir_in, limit
 use Rattle.up_conf.specs.declared.report.Fault.{Fault}
 use Rattle.up_image.specs.Compiling.{Compiles, has_twice, read_paths}
 use Rattle.up_image.specs.Definable.{is_token, can_set, can_export, are_exits, can_run, can_await, is_definable, are_definable}
+use Rattle.up_image.specs.declared.limits.TheConstants.{MAX_KEYS, MAX_SECONDS}
 use Rattle.up_image.proofs.GivenLists.{AllGood, ListsGood, env_good, export_good, exits_good}
 use Rattle.up_image.proofs.GivenStanzas.{StanzaGood, is_limit, conf_good}
 use Rattle.up_image.proofs.GivenOrder.{sorted_up, sorted_all, names_apart}
@@ -59,8 +60,8 @@ signal_said : (stanza : Stanza) → StanzaGood stanza → (y : ℕ) → kill_sig
 signal_said (KillSignal signal) good y is = let same : signal ≡ y = cc in ap is_signal (sym same) ∙ good
 signal_said stanza good y is = absurd (cc)
 
-timeout_said : (stanza : Stanza) → StanzaGood stanza → (y : ℕ) → kill_timeout_in stanza ≡ Some y → nat_le y 2147483647 ≡ true
-timeout_said (KillTimeout seconds) good y is = let same : seconds ≡ y = cc in ap (λ n. nat_le n 2147483647) (sym same) ∙ good
+timeout_said : (stanza : Stanza) → StanzaGood stanza → (y : ℕ) → kill_timeout_in stanza ≡ Some y → nat_le y MAX_SECONDS ≡ true
+timeout_said (KillTimeout seconds) good y is = let same : seconds ≡ y = cc in ap (λ n. nat_le n MAX_SECONDS) (sym same) ∙ good
 timeout_said stanza good y is = absurd (cc)
 
 reload_said : (stanza : Stanza) → StanzaGood stanza → (y : ℕ) → reload_signal_in stanza ≡ Some y → is_signal y ≡ true
@@ -124,12 +125,12 @@ few_keys stanzas few =
 env_given : (xs ys : List Stanza) → AllGood StanzaGood (xs ++ ys) → FewKeys xs → FewKeys ys → can_set (fold_stanzas env_with [] (xs ++ ys)) ≡ true
 env_given xs ys good one other =
     let made = env_good [] (xs ++ ys) (all_lists (xs ++ ys) good) (record { all = refl; apart = refl }) in
-    and_from _ _ (and_from _ _ (le-leb (length (fold_stanzas env_with [] (xs ++ ys))) 60000 (omega (arith, made.1, total_both keys_set xs ys, one.set, other.set))) made.0.all) (not_from_false _ made.0.apart)
+    and_from _ _ (and_from _ _ (le-leb (length (fold_stanzas env_with [] (xs ++ ys))) MAX_KEYS (omega (arith, made.1, total_both keys_set xs ys, one.set, other.set))) made.0.all) (not_from_false _ made.0.apart)
 
 export_given : (xs ys : List Stanza) → AllGood StanzaGood (xs ++ ys) → FewKeys xs → FewKeys ys → can_export (fold_stanzas export_with [] (xs ++ ys)) ≡ true
 export_given xs ys good one other =
     let made = export_good [] (xs ++ ys) (all_lists (xs ++ ys) good) (record { all = refl; apart = refl }) in
-    and_from _ _ (and_from _ _ (le-leb (length (fold_stanzas export_with [] (xs ++ ys))) 60000 (omega (arith, made.1, total_both keys_exported xs ys, one.exported, other.exported))) made.0.all) (not_from_false _ made.0.apart)
+    and_from _ _ (and_from _ _ (le-leb (length (fold_stanzas export_with [] (xs ++ ys))) MAX_KEYS (omega (arith, made.1, total_both keys_exported xs ys, one.exported, other.exported))) made.0.all) (not_from_false _ made.0.apart)
 
 normal_given : (stanzas : List Stanza) → AllGood StanzaGood stanzas → are_exits (fold_stanzas normal_with [] stanzas) ≡ true
 normal_given stanzas good =
@@ -153,7 +154,7 @@ job_given name xs ys named good one other =
     let limit = last_good is_limit limit_in limit_said (record { count = 10; interval = 5 }) all refl good in
     and_from _ _ (and_from _ _ (and_from _ _ (and_from _ _
     (and_from _ _ (and_from _ _ (and_from _ _ named instance.0) instance.1) (last_good is_token dir_in dir_said [] all no_text good))
-    (and_from _ _ (and_from _ _ (and_from _ _ limit (last_good is_signal kill_signal_in signal_said term all refl good)) (last_good (λ n. nat_le n 2147483647) kill_timeout_in timeout_said 5 all refl good))
+    (and_from _ _ (and_from _ _ (and_from _ _ limit (last_good is_signal kill_signal_in signal_said term all refl good)) (last_good (λ n. nat_le n MAX_SECONDS) kill_timeout_in timeout_said 5 all refl good))
     (last_good is_signal reload_signal_in reload_said hup all refl good)))
     (and_from _ _ (and_from _ _ (env_given xs ys good one other) (export_given xs ys good one other)) (normal_given all good)))
     (and_from _ _ (and_from _ _ (and_from _ _ (and_from _ _ (last_good can_run main_in main_said None all refl good) (last_good can_run pre_start_in pre_start_said None all refl good)) (last_good can_run post_start_in post_start_said None all refl good)) (last_good can_run pre_stop_in pre_stop_said None all refl good)) (last_good can_run post_stop_in post_stop_said None all refl good)))

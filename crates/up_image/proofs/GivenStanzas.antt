@@ -32,7 +32,7 @@ use Rattle.up_stanza.specs.Signals.{is_signal, signal_in, signal_named, without_
 use Rattle.up_stanza.proofs.Backward.{mapped, chosen}
 use Rattle.up_stanza.proofs.Signals.{signal_numbers}
 use Rattle.up_image.specs.Definable.{is_token, is_setting, is_value_token, is_exit, can_run, can_await}
-use Rattle.up_image.specs.declared.limits.TheConstants.{MAX_COUNT}
+use Rattle.up_image.specs.declared.limits.TheConstants.{MAX_COUNT, MAX_SECONDS}
 use Rattle.up_image.proofs.Bounds.{max_text}
 use Rattle.up_image.proofs.Thinning.{from_cut, push_text}
 use Rattle.up_image.proofs.Spelling.{Good, ReadsGood, reading_good, good_rest, feed_low}
@@ -59,12 +59,12 @@ number_most : (low high : ℕ) (text : List ℕ) (number : ℕ) → number_in lo
 number_most low high text number is = (and_parts (nat_le low number) (nat_le number high) (number_range low high text number is)).1
 
 abbrev pub is_limit : Limit → Bool
-is_limit limit = nat_le limit.count MAX_COUNT && nat_le limit.interval 2147483647
+is_limit limit = nat_le limit.count MAX_COUNT && nat_le limit.interval MAX_SECONDS
 
 limit_same : (made limit : Limit) → Some made ≡ Some limit → is_limit made ≡ true → is_limit limit ≡ true
 limit_same made limit is good = let same : made ≡ limit = cc in ap is_limit (sym same) ∙ good
 
-limit_both : (count interval : Option ℕ) (limit : Limit) → ((n : ℕ) → count ≡ Some n → nat_le n MAX_COUNT ≡ true) → ((n : ℕ) → interval ≡ Some n → nat_le n 2147483647 ≡ true) → limit_by count interval ≡ Some limit → is_limit limit ≡ true
+limit_both : (count interval : Option ℕ) (limit : Limit) → ((n : ℕ) → count ≡ Some n → nat_le n MAX_COUNT ≡ true) → ((n : ℕ) → interval ≡ Some n → nat_le n MAX_SECONDS ≡ true) → limit_by count interval ≡ Some limit → is_limit limit ≡ true
 limit_both None interval limit few short is = absurd (cc)
 limit_both (Some count) None limit few short is = absurd (cc)
 limit_both (Some count) (Some interval) limit few short is = limit_same (record { count = count; interval = interval }) limit is (and_from _ _ (few count refl) (short interval refl))
@@ -76,7 +76,7 @@ limit_good (text ∷ []) limit is = by_case (bytes_eq text (codes "unlimited")) 
     by_case : (b : Bool) → cond b (Some (record { count = 0; interval = 0 })) None ≡ Some limit → is_limit limit ≡ true
     by_case true some = limit_same (record { count = 0; interval = 0 }) limit some refl
     by_case false none = absurd (cc)
-limit_good (count ∷ interval ∷ []) limit is = limit_both _ _ limit (λ n e. number_most 0 MAX_COUNT count n e) (λ n e. number_most 0 2147483647 interval n e) is
+limit_good (count ∷ interval ∷ []) limit is = limit_both _ _ limit (λ n e. number_most 0 MAX_COUNT count n e) (λ n e. number_most 0 MAX_SECONDS interval n e) is
 limit_good (count ∷ interval ∷ third ∷ others) limit is = absurd (cc)
 
 signal_good : (text : List ℕ) (signal : ℕ) → signal_in text ≡ Some signal → is_signal signal ≡ true
@@ -235,7 +235,7 @@ StanzaGood (Env setting) = is_setting setting ≡ true
 StanzaGood (Export keys) = list_all is_key keys ≡ true
 StanzaGood (NormalExit exits) = list_all is_exit exits ≡ true
 StanzaGood (RespawnLimit limit) = is_limit limit ≡ true
-StanzaGood (KillTimeout seconds) = nat_le seconds 2147483647 ≡ true
+StanzaGood (KillTimeout seconds) = nat_le seconds MAX_SECONDS ≡ true
 StanzaGood (KillSignal signal) = is_signal signal ≡ true
 StanzaGood (ReloadSignal signal) = is_signal signal ≡ true
 StanzaGood (Instance text) = (is_token text ≡ true) × (is_expandable text ≡ true)
@@ -265,7 +265,7 @@ stanza_good place Manual after good is = (tt, (listed_good _ [] place after good
 stanza_good place Respawn after good is = (tt, (listed_good _ [] place after good is).1)
 stanza_good place (RespawnLimit limit) after good (texts, says, is) = (limit_good texts limit says, (listed_good _ _ place after good is).1)
 stanza_good place (NormalExit exits) after good (texts, filled, says, is) = (exits_good texts exits says, (listed_good _ _ place after good is).1)
-stanza_good place (KillTimeout seconds) after good (text, says, is) = (number_most 0 2147483647 text seconds says, (listed_good _ _ place after good is).1)
+stanza_good place (KillTimeout seconds) after good (text, says, is) = (number_most 0 MAX_SECONDS text seconds says, (listed_good _ _ place after good is).1)
 stanza_good place (KillSignal signal) after good (text, says, is) = (signal_good text signal says, (listed_good _ _ place after good is).1)
 stanza_good place (ReloadSignal signal) after good (text, says, is) = (signal_good text signal says, (listed_good _ _ place after good is).1)
 stanza_good place (Instance text) after good (says, is) = let one = first_token _ text place after good is in ((one.0, says), one.1)

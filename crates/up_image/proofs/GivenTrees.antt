@@ -17,6 +17,7 @@ use Rattle.up_expr.specs.Syntax.{Syntax, Bare, Group, Joined, Writes, tokens_of,
 use Rattle.up_expr.specs.Values.{is_negated_key, is_good, is_ordered, is_symbol, is_and, is_operator, test_of, test_by, values_of, are_values, leaf_of}
 use Rattle.up_stanza.proofs.Backward.{mapped}
 use Rattle.up_image.specs.Definable.{is_token_byte, is_token, is_test, is_leaf, are_leaves, is_lone, is_shallow, can_await}
+use Rattle.up_image.specs.declared.limits.TheConstants.{MAX_DEPTH, MAX_NODES}
 
 pub all_drop : {X : Type 0} (p : X → Bool) (n : ℕ) (xs : List X) → list_all p xs ≡ true → list_all p (drop n xs) ≡ true
 all_drop p zero xs all = all
@@ -198,5 +199,5 @@ tree_shallow (Joined left operator (Joined one middle other)) tree around good f
 pub tree_given : (tokens : List Token) (tree : Tree) → are_tokens tokens ≡ true → Writes tokens tree → can_await (Some tree) ≡ true
 tree_given tokens tree all writes =
     and_from _ _
-    (and_from _ _ (tree_leaves writes.syntax tree (ap are_tokens writes.written ∙ all) writes.says) (tree_shallow writes.syntax tree 256 writes.right writes.shallow writes.says))
-    (le-leb (size tree) 4095 (omega (arith, sized writes.syntax tree writes.says, writes.few)))
+    (and_from _ _ (tree_leaves writes.syntax tree (ap are_tokens writes.written ∙ all) writes.says) (tree_shallow writes.syntax tree MAX_DEPTH writes.right writes.shallow writes.says))
+    (le-leb (size tree) MAX_NODES (omega (arith, sized writes.syntax tree writes.says, writes.few)))

@@ -13,7 +13,7 @@ use Rattle.up_image.specs.Reading.{version_at}
 use Rattle.up_image.specs.Versions.{version_of, fits_reload}
 use Rattle.up_image.specs.declared.version.Version.{Version}
 use Rattle.up_image.specs.declared.version.Version.TheVariants.{One, Two}
-use Rattle.up_image.specs.declared.limits.TheConstants.{MAX_IMAGE}
+use Rattle.up_image.specs.declared.limits.TheConstants.{MAX_IMAGE, MAX_JOBS}
 
 -- how long it is
 pub image_long : (version : Version) (jobs : ℕ) (bytes body : List ℕ) → bytes ≡ head_of version jobs (length bytes) ++ body → length bytes ≡ 12 + length body
@@ -52,13 +52,13 @@ have_hup (job ∷ jobs) fit =
     and_from _ _ (has_hup job parts.0) (have_hup jobs parts.1)
 
 -- what it takes to have an image
-pub parts_of : (jobs : List JobDef) → has_image jobs ≡ true → (length jobs ≤ 1024) × ((list_all (fits Two) jobs ≡ true) × (12 + length (body_of Two jobs) ≤ MAX_IMAGE))
+pub parts_of : (jobs : List JobDef) → has_image jobs ≡ true → (length jobs ≤ MAX_JOBS) × ((list_all (fits Two) jobs ≡ true) × (12 + length (body_of Two jobs) ≤ MAX_IMAGE))
 unfolding has_image
 parts_of jobs has =
     let long = 12 + length (body_of Two jobs) in
-    let parts = and_parts (nat_le (length jobs) 1024 && list_all (fits Two) jobs) (nat_le long MAX_IMAGE) has in
-    let front = and_parts (nat_le (length jobs) 1024) (list_all (fits Two) jobs) parts.0 in
-    (leb-true (length jobs) 1024 front.0, (front.1, leb-true long MAX_IMAGE parts.1))
+    let parts = and_parts (nat_le (length jobs) MAX_JOBS && list_all (fits Two) jobs) (nat_le long MAX_IMAGE) has in
+    let front = and_parts (nat_le (length jobs) MAX_JOBS) (list_all (fits Two) jobs) parts.0 in
+    (leb-true (length jobs) MAX_JOBS front.0, (front.1, leb-true long MAX_IMAGE parts.1))
 
 -- a vector whose slice was written whole
 pub written : {X : Type 0} (len : ℕ) (new old : List X) → length new ≡ length old → length old ≡ len → take len (new ++ drop (length new) old) ≡ new
@@ -104,4 +104,4 @@ pub has_it : (jobs : List JobDef) (bytes : List ℕ) → IsImage bytes jobs → 
 unfolding has_image
 has_it jobs bytes image =
     let long = image_long Two (length jobs) bytes (body_of Two jobs) image.written in
-    rw (le-leb (length jobs) 1024 image.few, image.counted, le-leb (12 + length (body_of Two jobs)) MAX_IMAGE (omega (arith, long, image.small))) refl
+    rw (le-leb (length jobs) MAX_JOBS image.few, image.counted, le-leb (12 + length (body_of Two jobs)) MAX_IMAGE (omega (arith, long, image.small))) refl

@@ -26,7 +26,7 @@ use Rattle.up_image.specs.Texts.{text_part}
 use Rattle.up_image.specs.Versions.{fits_reload}
 use Rattle.up_image.specs.declared.version.Version.{Version}
 use Rattle.up_image.specs.declared.version.Version.TheVariants.{One, Two}
-use Rattle.up_image.specs.declared.limits.TheConstants.{MAX_COUNT, MAX_IMAGE, MAX_ITEMS}
+use Rattle.up_image.specs.declared.limits.TheConstants.{MAX_COUNT, MAX_DEPTH, MAX_IMAGE, MAX_ITEMS, MAX_KEYS, MAX_NODES, MAX_SECONDS}
 use Rattle.up_image.proofs.Decoding.{Decodes, shorter, two_found, four_found, list_decodes}
 use Rattle.up_image.proofs.PartDecoding.{name_decodes, key_decodes, token_decodes, setting_decodes, exit_decodes, action_decodes, trees_found, both_found}
 
@@ -34,12 +34,12 @@ use Rattle.up_image.proofs.PartDecoding.{name_decodes, key_decodes, token_decode
 abbrev is_condition : Option Tree → Bool
 is_condition condition = definable.can_await condition && image.fits_condition condition
 
-trees_are : (tree : Tree) (r : List ℕ) → definable.are_leaves tree ≡ true → list_all image.fits_node (nodes_of 0 tree) ≡ true → nat_le (size tree) 4095 ≡ true
+trees_are : (tree : Tree) (r : List ℕ) → definable.are_leaves tree ≡ true → list_all image.fits_node (nodes_of 0 tree) ≡ true → nat_le (size tree) MAX_NODES ≡ true
     → length (flat_map image.node_part (nodes_of 0 tree) ++ r) ≤ MAX_IMAGE
     → found.trees_by (length (nodes_of 0 tree), flat_map image.node_part (nodes_of 0 tree) ++ r) ≡ Some (Some tree, r)
 trees_are tree r are fit short small =
     let long = length_nodes 0 tree in
-    let few : nat_le (length (nodes_of 0 tree)) 4095 ≡ true = le-leb (length (nodes_of 0 tree)) 4095 (omega (arith, long, leb-true (size tree) 4095 short)) in
+    let few : nat_le (length (nodes_of 0 tree)) MAX_NODES ≡ true = le-leb (length (nodes_of 0 tree)) MAX_NODES (omega (arith, long, leb-true (size tree) MAX_NODES short)) in
     rw (few, trees_found tree 0 (length (nodes_of 0 tree)) 0 [] r are fit (omega (arith, long)) small) refl
 
 condition_decodes : Decodes (λ condition. image.list_part image.node_part (image.nodes_in condition)) condition_at is_condition
@@ -52,13 +52,13 @@ condition_decodes = record { finds = by_case }
     by_case (Some tree) r is small =
         let nodes = nodes_of 0 tree in
         let parts = and_parts (definable.can_await (Some tree)) (image.fits_condition (Some tree)) is in
-        let whole = and_parts (definable.are_leaves tree && definable.is_shallow 256 tree) (image.is_short (Some tree)) parts.0 in
-        let leaves = and_parts (definable.are_leaves tree) (definable.is_shallow 256 tree) whole.0 in
-        let fits = and_parts (nat_le (size tree) 4095) (list_all image.fits_node nodes) parts.1 in
+        let whole = and_parts (definable.are_leaves tree && definable.is_shallow MAX_DEPTH tree) (image.is_short (Some tree)) parts.0 in
+        let leaves = and_parts (definable.are_leaves tree) (definable.is_shallow MAX_DEPTH tree) whole.0 in
+        let fits = and_parts (nat_le (size tree) MAX_NODES) (list_all image.fits_node nodes) parts.1 in
         let apart = append_assoc (big_bytes 2 (length nodes)) (flat_map image.node_part nodes) r in
         let small_whole : length (big_bytes 2 (length nodes) ++ (flat_map image.node_part nodes ++ r)) ≤ MAX_IMAGE = omega (arith, small, ap length apart) in
         ap (λ bytes. option_and_then found.trees_by (number_at 2 bytes)) apart
-        ∙ ap (λ x. option_and_then found.trees_by x) (two_found (length nodes) (flat_map image.node_part nodes ++ r) (omega (arith, length_nodes 0 tree, leb-true (size tree) 4095 fits.0)))
+        ∙ ap (λ x. option_and_then found.trees_by x) (two_found (length nodes) (flat_map image.node_part nodes ++ r) (omega (arith, length_nodes 0 tree, leb-true (size tree) MAX_NODES fits.0)))
         ∙ trees_are tree r leaves.0 fits.1 fits.0 (shorter (big_bytes 2 (length nodes)) (flat_map image.node_part nodes ++ r) small_whole)
 
 -- parts one after another
@@ -114,9 +114,9 @@ numbers_found : (version : Version) (job : JobDef) (r : List ℕ) → image.fits
 numbers_found version job r fit is =
     let fits = and_parts _ (fits_reload version job.reload_signal) (and_parts _ (image.fits_number job.kill_timeout) fit).0 in
     let end = and_parts _ (is_signal job.reload_signal) is in
-    let last = and_parts _ (nat_le job.kill_timeout 2147483647) end.0 in
+    let last = and_parts _ (nat_le job.kill_timeout MAX_SECONDS) end.0 in
     let front = and_parts _ (is_signal job.kill_signal) last.0 in
-    let first = and_parts (nat_le job.limit.count MAX_COUNT) (nat_le job.limit.interval 2147483647) front.0 in
+    let first = and_parts (nat_le job.limit.count MAX_COUNT) (nat_le job.limit.interval MAX_SECONDS) front.0 in
     let t = big_bytes 4 job.kill_timeout ++ r in
     let s = image.reload_part version job ++ t in
     let k = (job.kill_signal ∷ []) ++ s in
@@ -124,10 +124,10 @@ numbers_found version job r fit is =
     ap (λ bytes. numbers_at version bytes) (five_apart (big_bytes 4 job.limit.count) (big_bytes 4 job.limit.interval) (job.kill_signal ∷ []) (image.reload_part version job) (big_bytes 4 job.kill_timeout) r)
     ∙ numbers_by version (big_bytes 4 job.limit.count ++ i) i k s t r job.limit.count job.limit.interval job.kill_signal job.reload_signal job.kill_timeout
     (four_found job.limit.count i (omega (arith, leb-true job.limit.count MAX_COUNT first.0)))
-    (four_found job.limit.interval k (omega (arith, leb-true job.limit.interval 2147483647 first.1)))
+    (four_found job.limit.interval k (omega (arith, leb-true job.limit.interval MAX_SECONDS first.1)))
     refl
     (reload_found version job t fits.1)
-    (four_found job.kill_timeout r (omega (arith, leb-true job.kill_timeout 2147483647 last.1)))
+    (four_found job.kill_timeout r (omega (arith, leb-true job.kill_timeout MAX_SECONDS last.1)))
 
 abbrev signals : JobDef → Signals
 signals job = record { kill = job.kill_signal; reload = job.reload_signal }
@@ -135,15 +135,15 @@ signals job = record { kill = job.kill_signal; reload = job.reload_signal }
 signals_found : (job : JobDef) → definable.has_numbers job ≡ true → found.signals_of (numbers job) ≡ Some (signals job)
 signals_found job is =
     let end = and_parts _ (is_signal job.reload_signal) is in
-    let last = and_parts _ (nat_le job.kill_timeout 2147483647) end.0 in
+    let last = and_parts _ (nat_le job.kill_timeout MAX_SECONDS) end.0 in
     rw ((and_parts _ (is_signal job.kill_signal) last.0).1, end.1) refl
 
 -- its lists
 abbrev lists : JobDef → Lists
 lists job = record { env = job.env; export = job.export; normal = job.normal }
 
-keys_few : (n : ℕ) → nat_le n 60000 ≡ true → nat_le n MAX_ITEMS ≡ true
-keys_few n few = le-leb n MAX_ITEMS (omega (arith, leb-true n 60000 few))
+keys_few : (n : ℕ) → nat_le n MAX_KEYS ≡ true → nat_le n MAX_ITEMS ≡ true
+keys_few n few = le-leb n MAX_ITEMS (omega (arith, leb-true n MAX_KEYS few))
 
 lists_by : (bytes k x r : List ℕ) (env : List Setting) (keys : List (List ℕ)) (exits : List Exit) → list_at setting_at bytes ≡ Some (env, k) → list_at text_at k ≡ Some (keys, x) → list_at exit_at x ≡ Some (exits, r)
     → lists_at bytes ≡ Some (record { env = env; export = keys; normal = exits }, r)
@@ -154,8 +154,8 @@ lists_found : (job : JobDef) (r : List ℕ) → definable.has_lists job ≡ true
 lists_found job r is few small =
     let last = and_parts _ (definable.are_exits job.normal) is in
     let first = and_parts (definable.can_set job.env) (definable.can_export job.export) last.0 in
-    let env = and_parts (nat_le (length job.env) 60000) (list_all definable.is_setting job.env) (and_parts _ _ first.0).0 in
-    let keys = and_parts (nat_le (length job.export) 60000) (list_all is_key job.export) (and_parts _ _ first.1).0 in
+    let env = and_parts (nat_le (length job.env) MAX_KEYS) (list_all definable.is_setting job.env) (and_parts _ _ first.0).0 in
+    let keys = and_parts (nat_le (length job.export) MAX_KEYS) (list_all is_key job.export) (and_parts _ _ first.1).0 in
     let exits = and_parts (list_all definable.is_exit job.normal) (definable.are_apart job.normal) last.1 in
     let e = image.list_part image.setting_part job.env in
     let k = image.list_part text_part job.export in

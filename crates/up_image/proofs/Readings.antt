@@ -14,7 +14,7 @@ use Rattle.up_image.specs.Index.{entries_of, index_part}
 use Rattle.up_image.specs.Reading.{HasNoTable, HasTable, IsStored, version_at}
 use Rattle.up_image.specs.declared.version.Version.{Version}
 use Rattle.up_image.specs.declared.version.Version.TheVariants.{One, Two}
-use Rattle.up_image.specs.declared.limits.TheConstants.{MAX_IMAGE}
+use Rattle.up_image.specs.declared.limits.TheConstants.{MAX_IMAGE, MAX_JOBS}
 use Rattle.up_image.proofs.Decoding.{items_found}
 use Rattle.up_image.proofs.Images.{has_it, same_version, says_version}
 use Rattle.up_image.proofs.JobDecoding.{is_found_job, job_decodes}
@@ -27,7 +27,7 @@ all_found version (job ∷ jobs) fit given =
     rw (one.0, other.0, all_found version jobs one.1 other.1) refl
 
 -- how many jobs an image says that it has
-counted : (version : Version) (jobs long : ℕ) (body : List ℕ) → jobs ≤ 1024 → big_number 2 (drop 6 (head_of version jobs long ++ body)) ≡ jobs
+counted : (version : Version) (jobs long : ℕ) (body : List ℕ) → jobs ≤ MAX_JOBS → big_number 2 (drop 6 (head_of version jobs long ++ body)) ≡ jobs
 counted version jobs long body few = big_number-reads_back 2 jobs (big_bytes 4 long ++ body) (omega (arith, few))
 
 body_after : (version : Version) (jobs long : ℕ) (body : List ℕ) → drop 12 (head_of version jobs long ++ body) ≡ body

@@ -7,13 +7,13 @@ use Rattle.up_conf.specs.declared.job.JobDef.{JobDef}
 use Rattle.up_image.specs.Image.{IsVersion, fits, job_part, head_of}
 use Rattle.up_image.specs.Index.{entries_of, index_part}
 use Rattle.up_image.specs.declared.version.Version.{Version}
-use Rattle.up_image.specs.declared.limits.TheConstants.{MAX_IMAGE}
+use Rattle.up_image.specs.declared.limits.TheConstants.{MAX_IMAGE, MAX_JOBS}
 use Rattle.up_image.proofs.Images.{says_version, same_version}
 use Rattle.up_image.proofs.Prefixes.{same_items, same_length, same_two}
 use Rattle.up_image.proofs.Telling.{job_tells}
 
 -- equal heads are of as many jobs
-same_count : (version : Version) (n m long : ℕ) → n ≤ 1024 → m ≤ 1024 → head_of version n long ≡ head_of version m long → n ≡ m
+same_count : (version : Version) (n m long : ℕ) → n ≤ MAX_JOBS → m ≤ MAX_JOBS → head_of version n long ≡ head_of version m long → n ≡ m
 same_count version n m long few also is =
     (same_two n m (big_bytes 4 long) (big_bytes 4 long) (omega (arith, few)) (omega (arith, also)) (ap (drop 6) is)).0
 

@@ -25,7 +25,7 @@ use Rattle.up_image.specs.Texts.{text_part}
 use Rattle.up_image.specs.Versions.{fits_reload}
 use Rattle.up_image.specs.declared.version.Version.{Version}
 use Rattle.up_image.specs.declared.version.Version.TheVariants as versions
-use Rattle.up_image.specs.declared.limits.TheConstants.{MAX_IMAGE, MAX_ITEMS}
+use Rattle.up_image.specs.declared.limits.TheConstants.{MAX_IMAGE, MAX_ITEMS, MAX_NODES}
 use Rattle.up_image.proofs.Prefixes.{Tells, any, all_any, same_four, same_text, text_tells, both_tell, of_tells, also_tells, list_tells}
 
 -- a list of things whose parts tell all of them
@@ -167,8 +167,8 @@ condition_tells = record {
     countable : (c : Option Tree) → image.fits_condition c ≡ true → (nat_le (length (image.nodes_in c)) MAX_ITEMS && list_all image.fits_node (image.nodes_in c)) ≡ true
     countable None fit = refl
     countable (Some tree) fit =
-        let parts = and_parts (nat_le (size tree) 4095) (list_all image.fits_node (nodes_of 0 tree)) fit in
-        let short : nat_le (length (nodes_of 0 tree)) MAX_ITEMS ≡ true = le-leb (length (nodes_of 0 tree)) MAX_ITEMS (omega (arith, length_nodes 0 tree, leb-true (size tree) 4095 parts.0)) in
+        let parts = and_parts (nat_le (size tree) MAX_NODES) (list_all image.fits_node (nodes_of 0 tree)) fit in
+        let short : nat_le (length (nodes_of 0 tree)) MAX_ITEMS ≡ true = le-leb (length (nodes_of 0 tree)) MAX_ITEMS (omega (arith, length_nodes 0 tree, leb-true (size tree) MAX_NODES parts.0)) in
         rw (short, parts.1) refl
 
 -- the flags
