@@ -1,5 +1,5 @@
 -- What the nodes of an expression remember, by what its leaves keep.
-use Rattle.std.specs.Prelude.{ℕ, ◌+◌, ◌==◌, nat_lt, Bool, false, ◌&&◌, ◌||◌, List, [], ◌∷◌, ◌++◌, Option, None, Some, if◌then◌else◌, is_some}
+use Rattle.std.specs.Prelude.{◌≡◌, ◌<◌, ℕ, ◌+◌, ◌==◌, nat_lt, Bool, false, ◌&&◌, ◌||◌, List, [], ◌∷◌, ◌++◌, Option, None, Some, if◌then◌else◌, is_some}
 use Rattle.std.specs.Option.{option_to_list}
 use Rattle.up_value.specs.Values.{Bytes, Bindings}
 use Rattle.up_expr.specs.Flat.{size}
@@ -83,3 +83,8 @@ occurs event (other ∷ events) = if other.key == event.key then occurs event ev
 -- how often marks keep an event
 abbrev pub uses : EventId → List Mark → ℕ
 uses event marks = occurs event (kept_in marks)
+
+-- of the ids that marks keep, those that stand for an event have this key
+abbrev pub IsOnlyId : (EventId → Option ℕ) → List Mark → EventId → (event : ℕ) → Type 0
+IsOnlyId event_of marks id event =
+    (other : EventId) → 0 < uses other marks → event_of other ≡ Some event → other.key ≡ id.key

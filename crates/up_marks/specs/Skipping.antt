@@ -7,12 +7,14 @@ use Rattle.up_text.specs.Scripts.{is_filled}
 use Rattle.up_model.specs.declared.event.Event.{Event}
 use Rattle.up_model.specs.Chronicle.{Chronicle, Entry, Offered, Expression, StartOn, StopOn}
 use Rattle.up_model.specs.Configuration.{Configuration}
+use Rattle.up_model.specs.Due.{due}
 use Rattle.up_model.specs.Files.{names_in_order}
 use Rattle.up_model.specs.Instances.{Instance, instances_of}
 use Rattle.up_model.specs.Moves.{move_first}
 use Rattle.up_model.specs.Offers.{is_open, offering, stop_offer, start_offer}
 use Rattle.up_model.specs.Readings.{event_at}
-use Rattle.up_model.specs.Seen.{seen, holds, was_offered}
+use Rattle.up_model.specs.Seen.{seen, holds, kept, taken, was_offered}
+use Rattle.up_model.specs.Work.{settle, work}
 use Rattle.up_marks.specs.Naming.{names_in}
 
 -- an expression in force: what stops the instance made at a place, by its file, or what starts a job
@@ -60,15 +62,37 @@ abbrev pub names_event : Option Tree → Option Event → Bool
 names_event condition None = false
 names_event condition (Some event) = names_in condition event.name
 
+-- whether the next expression names an event, and whether it is true
+abbrev pub next_names : Next → (event : ℕ) → Chronicle → Bool
+next_names next event c = names_event (condition_of next) (event_at event c)
+
+abbrev pub next_holds : Configuration → Next → Chronicle → Bool
+next_holds config next c = holds (condition_of next) (seen config (expression_of next) c)
+
+-- an entry leaves an expression as true as it was, with the same events kept and taken
+abbrev pub ChangesNothing : Configuration → Option Tree → Expression → Entry → Chronicle → Type 0
+ChangesNothing config condition x entry c =
+    (holds condition (seen config x (entry ∷ c)) ≡ holds condition (seen config x c))
+    × (kept condition (seen config x (entry ∷ c)) ≡ kept condition (seen config x c))
+    × (taken condition (seen config x (entry ∷ c)) ≡ taken condition (seen config x c))
+
 -- an offer to an expression that isn't true changes nothing of it: no leaf of it names the event
 pub record IsSkipped (config : Configuration) (next : Next) (event : ℕ) (c : Chronicle) : Type 0 where
-  pub unnamed : names_event (condition_of next) (event_at event c) ≡ false
-  pub quiet : holds (condition_of next) (seen config (expression_of next) c) ≡ false
+  pub unnamed : next_names next event c ≡ false
+  pub quiet : next_holds config next c ≡ false
 
 abbrev pub is_skipped : Configuration → Next → (event : ℕ) → Chronicle → Bool
-is_skipped config next event c =
-    not (names_event (condition_of next) (event_at event c))
-    && not (holds (condition_of next) (seen config (expression_of next) c))
+is_skipped config next event c = not (next_names next event c) && not (next_holds config next c)
+
+-- how a step ends
+abbrev pub ended : Configuration → Chronicle → Chronicle
+ended config c = settle (work config c) config c
+
+-- an entry is all that is due and changes nothing: the step ends as it would without it, and no instance may
+-- move after it
+abbrev pub IsNoted : Configuration → Entry → Chronicle → Type 0
+IsNoted config entry c = (due config c ≡ entry ∷ []) × (ended config (entry ∷ c) ≡ ended config c)
+    × (move_first (names_in_order config c) (entry ∷ c) ≡ [])
 
 -- the note of the next offer, if no instance may move and the offer is one that changes nothing
 abbrev pub skip_of : Configuration → (moving : Bool) → Option ℕ → Option Next → Chronicle → Option Entry

@@ -9,19 +9,18 @@ ghost use Rattle.up_model.specs.Held.{has};
 ghost use Rattle.up_model.specs.declared.event_id.EventId.{EventId};
 ghost use Rattle.up_marks.specs.declared.mark.Mark.{Mark};
 ghost use Rattle.up_marks.specs.Agreeing.{Agrees, sight_of};
-ghost use Rattle.up_marks.specs.Marking.{uses};
+ghost use Rattle.up_marks.specs.Marking.{IsOnlyId, uses};
 ghost use Rattle.up_marks.specs.Naming.{names};
 ghost use Rattle.up_marks.specs.Ruling.{may_hear};
 ghost use Rattle.up_model.specs.Chronicle.{Chronicle, Expression, Offered};
 ghost use Rattle.up_model.specs.Configuration.{Configuration};
-ghost use Rattle.up_model.specs.Due.{due};
 ghost use Rattle.up_model.specs.Files.{names_in_order};
 ghost use Rattle.up_model.specs.Moves.{move_first};
 ghost use Rattle.up_model.specs.Offers.{offer_first, offering};
 ghost use Rattle.up_model.specs.Readings.{event_at};
-ghost use Rattle.up_model.specs.Seen.{env_of, holds, kept, same_expression, seen, taken};
-ghost use Rattle.up_model.specs.Work.{settle, work};
-ghost use Rattle.up_marks.specs.Skipping.{IsSkipped, Next, condition_of, expression_of, names_event, next_offer, next_skip, offer_to, skip};
+ghost use Rattle.up_model.specs.Seen.{env_of, same_expression, seen};
+ghost use Rattle.up_model.specs.Work.{work};
+ghost use Rattle.up_marks.specs.Skipping.{ChangesNothing, IsNoted, IsSkipped, Next, ended, expression_of, names_event, next_holds, next_names, next_offer, next_skip, offer_to, skip};
 
 /// An offer of an event that no leaf of an expression names leaves it as true as it was, with the same events
 /// kept and taken.
@@ -29,9 +28,7 @@ pub fn unnamed_changes_nothing()
     ensures { (config : Configuration) (condition : Option Tree) (x other : Expression) (e : ℕ)
         (c : Chronicle)
         → names_event condition (event_at e c) ≡ false
-        → (holds condition (seen config x (Offered other e ∷ c)) ≡ holds condition (seen config x c))
-        × (kept condition (seen config x (Offered other e ∷ c)) ≡ kept condition (seen config x c))
-        × (taken condition (seen config x (Offered other e ∷ c)) ≡ taken condition (seen config x c)) }
+        → ChangesNothing config condition x (Offered other e) c }
 {}
 
 /// What the model offers is an offer to the first expression that is still to be offered the event.
@@ -46,11 +43,7 @@ pub fn skipped()
     ensures { (config : Configuration) (next : Next) (e : ℕ) (c : Chronicle)
         → move_first (names_in_order config c) c ≡ [] → offering c ≡ Some e
         → next_offer config.jobs c ≡ Some next → IsSkipped config next e c
-        → (due config c ≡ Offered (expression_of next) e ∷ [])
-        × (settle (work config (Offered (expression_of next) e ∷ c)) config (Offered
-        (expression_of next) e ∷ c)
-        ≡ settle (work config c) config c)
-        × (move_first (names_in_order config c) (Offered (expression_of next) e ∷ c) ≡ []) }
+        → IsNoted config (Offered (expression_of next) e) c }
 {}
 
 /// Marks that agree with what an expression has seen agree with that and an event that no leaf names.
@@ -69,8 +62,7 @@ pub fn other_ids_may_change()
 
 /// A step ends as it would if all offers that change nothing were noted at once.
 pub fn skipping_ends_alike()
-    ensures { (n : ℕ) (config : Configuration) (c : Chronicle)
-        → settle (work config (skip n config c)) config (skip n config c) ≡ settle (work config c) config c }
+    ensures { (n : ℕ) (config : Configuration) (c : Chronicle) → ended config (skip n config c) ≡ ended config c }
 {}
 
 /// After enough of these notes none is left.
@@ -81,10 +73,10 @@ pub fn skipping_comes_to_rest()
 
 /// If none is left, and no instance may move, the next expression names the event, unless it is already true.
 pub fn next_is_named()
-    ensures { (config : Configuration) (next : Next) (e : ℕ) (c : Chronicle) → move_first (names_in_order config c) c ≡ []
-        → offering c ≡ Some e → next_offer config.jobs c ≡ Some next → next_skip config c ≡ None
-        → holds (condition_of next) (seen config (expression_of next) c) ≡ false
-        → names_event (condition_of next) (event_at e c) ≡ true }
+    ensures { (config : Configuration) (next : Next) (e : ℕ) (c : Chronicle)
+        → move_first (names_in_order config c) c ≡ [] → offering c ≡ Some e
+        → next_offer config.jobs c ≡ Some next → next_skip config c ≡ None
+        → next_holds config next c ≡ false → next_names next e c ≡ true }
 {}
 
 /// An offer adds its event to what the expression has seen.
@@ -98,9 +90,8 @@ pub fn offered_is_seen()
 /// An expression holds an event exactly if its marks keep the event's id, if no other id that they keep means it.
 pub fn held_by_uses()
     ensures { (event_of : EventId → Option ℕ) (marks : List Mark) (tree : Tree) (sights : List Sight)
-        (id : EventId)
-        (e : ℕ) → Agrees event_of marks tree sights → event_of id ≡ Some e
-        → ((other : EventId) → 0 < uses other marks → event_of other ≡ Some e → other.key ≡ id.key)
+        (id : EventId) (e : ℕ)
+        → Agrees event_of marks tree sights → event_of id ≡ Some e → IsOnlyId event_of marks id e
         → has e (truth.kept tree sights) ≡ nat_lt 0 (uses id marks) }
 {}
 
@@ -109,7 +100,5 @@ pub fn ruled_out_changes_nothing()
     ensures { (config : Configuration) (condition : Option Tree) (x other : Expression) (e : ℕ)
         (c : Chronicle)
         → may_hear condition (event_at e c) ≡ false
-        → (holds condition (seen config x (Offered other e ∷ c)) ≡ holds condition (seen config x c))
-        × (kept condition (seen config x (Offered other e ∷ c)) ≡ kept condition (seen config x c))
-        × (taken condition (seen config x (Offered other e ∷ c)) ≡ taken condition (seen config x c)) }
+        → ChangesNothing config condition x (Offered other e) c }
 {}

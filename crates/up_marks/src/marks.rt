@@ -5,7 +5,7 @@ ghost use Rattle.up_expr.specs.Trees.{Tree};
 ghost use Rattle.up_expr.specs.Truth.{Sight};
 ghost use Rattle.up_expr.specs.Truth as truth;
 ghost use Rattle.up_model.specs.declared.event_id.EventId.{EventId as EventIdValue};
-ghost use Rattle.up_marks.specs.Agreeing.{Agrees, naming, newly, sight_of};
+ghost use Rattle.up_marks.specs.Agreeing.{Agrees, OfEachId, OnOffer, newly};
 ghost use Rattle.up_marks.specs.Marking.{kept_in, uses};
 
 use crate::joining::hints_of;
@@ -94,27 +94,14 @@ impl Marks {
         env: &Env,
     ) -> Result<Offer, AllocError>
         requires { length self.old ≡ size condition.now }
-        ensures agrees { OnOk result ((event_of : EventIdValue → Option ℕ) (sights : List Sight) (e : ℕ)
-            → Agrees event_of self.old condition.now sights → event_of id ≡ Some e
-            → map (λ place. place.node) places.now ≡ naming 0 condition.now event.now.name
-            → Agrees event_of self.new condition.now
-            (sights ++ sight_of e event.now.name event.now.vars env.now ∷ [])) }
-        ensures kept { IfOk result (λ offer. (event_of : EventIdValue → Option ℕ) (sights : List Sight)
-            (e : ℕ)
-            → Agrees event_of self.old condition.now sights → event_of id ≡ Some e
-            → map (λ place. place.node) places.now ≡ naming 0 condition.now event.now.name
-            → offer.kept ≡ newly condition.now sights
-            (sight_of e event.now.name event.now.vars env.now)) }
-        ensures holds { IfOk result (λ offer. (event_of : EventIdValue → Option ℕ) (sights : List Sight)
-            (e : ℕ)
-            → Agrees event_of self.old condition.now sights → event_of id ≡ Some e
-            → map (λ place. place.node) places.now ≡ naming 0 condition.now event.now.name
-            → offer.holds ≡ truth.holds condition.now
-            (sights ++ sight_of e event.now.name event.now.vars env.now ∷ [])) }
-        ensures uses { IfOk result (λ offer. (event_of : EventIdValue → Option ℕ) (sights : List Sight)
-            (other : EventIdValue) → Agrees event_of self.old condition.now sights
-            → map (λ place. place.node) places.now ≡ naming 0 condition.now event.now.name
-            → uses other self.new ≡ uses other self.old + (if id.key == other.key then offer.kept else 0)) }
+        ensures agrees { OnOk result (OnOffer self.old condition.now places.now id event.now env.now
+            (λ event_of sights sight. Agrees event_of self.new condition.now (sights ++ sight ∷ []))) }
+        ensures kept { IfOk result (λ offer. OnOffer self.old condition.now places.now id event.now env.now
+            (λ event_of sights sight. offer.kept ≡ newly condition.now sights sight)) }
+        ensures holds { IfOk result (λ offer. OnOffer self.old condition.now places.now id event.now env.now
+            (λ event_of sights sight. offer.holds ≡ truth.holds condition.now (sights ++ sight ∷ []))) }
+        ensures uses { IfOk result (λ offer. OfEachId self.old condition.now places.now event.now
+            (λ other. uses other self.new ≡ uses other self.old + (if id.key == other.key then offer.kept else 0))) }
         ensures unchanged { OnErr result (self.new ≡ self.old) }
     {
         let hints = self.hints.as_slice();

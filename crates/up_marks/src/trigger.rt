@@ -5,10 +5,9 @@ ghost use Rattle.up_expr.specs.Truth.{Sight};
 ghost use Rattle.up_expr.specs.Truth as truth;
 ghost use Rattle.up_model.specs.declared.event_id.EventId.{EventId as EventIdValue};
 ghost use Rattle.up_model.specs.Seen as seen;
-ghost use Rattle.up_marks.specs.Agreeing.{Agrees, naming, newly, sight_of};
+ghost use Rattle.up_marks.specs.Agreeing.{Agrees, OfEachId, OnOffer, newly};
 ghost use Rattle.up_marks.specs.Marking.{kept_in, uses};
-ghost use Rattle.up_marks.specs.Naming.{naming_in};
-ghost use Rattle.up_marks.specs.Triggers.{Remembers, kept_by, newly_in, uses_by};
+ghost use Rattle.up_marks.specs.Triggers.{OfEachIdIn, OnOfferIn, Remembers, kept_by, newly_in, uses_by};
 
 use crate::marks::{Marks, Offer};
 use std::alloc::{AllocError, Global};
@@ -53,24 +52,14 @@ fn offer_fitting(
     event: &Event,
     env: &Env,
 ) -> Result<Offer, AllocError>
-    ensures agrees { OnOk result ((event_of : EventIdValue → Option ℕ) (sights : List Sight) (e : ℕ)
-        → Agrees event_of marks.old condition.now sights → event_of id ≡ Some e
-        → map (λ place. place.node) places.now ≡ naming 0 condition.now event.now.name
-        → Agrees event_of marks.new condition.now
-        (sights ++ sight_of e event.now.name event.now.vars env.now ∷ [])) }
-    ensures kept { IfOk result (λ offer. (event_of : EventIdValue → Option ℕ) (sights : List Sight) (e : ℕ)
-        → Agrees event_of marks.old condition.now sights → event_of id ≡ Some e
-        → map (λ place. place.node) places.now ≡ naming 0 condition.now event.now.name
-        → offer.kept ≡ newly condition.now sights (sight_of e event.now.name event.now.vars env.now)) }
-    ensures holds { IfOk result (λ offer. (event_of : EventIdValue → Option ℕ) (sights : List Sight) (e : ℕ)
-        → Agrees event_of marks.old condition.now sights → event_of id ≡ Some e
-        → map (λ place. place.node) places.now ≡ naming 0 condition.now event.now.name
-        → offer.holds ≡ truth.holds condition.now
-        (sights ++ sight_of e event.now.name event.now.vars env.now ∷ [])) }
-    ensures uses { IfOk result (λ offer. (event_of : EventIdValue → Option ℕ) (sights : List Sight)
-        (other : EventIdValue) → Agrees event_of marks.old condition.now sights
-        → map (λ place. place.node) places.now ≡ naming 0 condition.now event.now.name
-        → uses other marks.new ≡ uses other marks.old + (if id.key == other.key then offer.kept else 0)) }
+    ensures agrees { OnOk result (OnOffer marks.old condition.now places.now id event.now env.now
+        (λ event_of sights sight. Agrees event_of marks.new condition.now (sights ++ sight ∷ []))) }
+    ensures kept { IfOk result (λ offer. OnOffer marks.old condition.now places.now id event.now env.now
+        (λ event_of sights sight. offer.kept ≡ newly condition.now sights sight)) }
+    ensures holds { IfOk result (λ offer. OnOffer marks.old condition.now places.now id event.now env.now
+        (λ event_of sights sight. offer.holds ≡ truth.holds condition.now (sights ++ sight ∷ []))) }
+    ensures uses { IfOk result (λ offer. OfEachId marks.old condition.now places.now event.now
+        (λ other. uses other marks.new ≡ uses other marks.old + (if id.key == other.key then offer.kept else 0))) }
     ensures unchanged { OnErr result (marks.new ≡ marks.old) }
 {
     if marks.fits(condition) {
@@ -168,28 +157,14 @@ impl Trigger {
         event: &Event,
         env: &Env,
     ) -> Result<Offer, AllocError>
-        ensures remembers { OnOk result ((event_of : EventIdValue → Option ℕ) (sights : List Sight) (e : ℕ)
-            → Remembers event_of self.old condition.now sights → event_of id ≡ Some e
-            → map (λ place. place.node) places.now ≡ naming_in condition.now event.now.name
-            → Remembers event_of self.new condition.now
-            (sights ++ sight_of e event.now.name event.now.vars env.now ∷ [])) }
-        ensures kept { IfOk result (λ offer. (event_of : EventIdValue → Option ℕ) (sights : List Sight)
-            (e : ℕ)
-            → Remembers event_of self.old condition.now sights → event_of id ≡ Some e
-            → map (λ place. place.node) places.now ≡ naming_in condition.now event.now.name
-            → offer.kept ≡ newly_in condition.now sights
-            (sight_of e event.now.name event.now.vars env.now)) }
-        ensures holds { IfOk result (λ offer. (event_of : EventIdValue → Option ℕ) (sights : List Sight)
-            (e : ℕ)
-            → Remembers event_of self.old condition.now sights → event_of id ≡ Some e
-            → map (λ place. place.node) places.now ≡ naming_in condition.now event.now.name
-            → offer.holds ≡ seen.holds condition.now
-            (sights ++ sight_of e event.now.name event.now.vars env.now ∷ [])) }
-        ensures uses { IfOk result (λ offer. (event_of : EventIdValue → Option ℕ) (sights : List Sight)
-            (other : EventIdValue) → Remembers event_of self.old condition.now sights
-            → map (λ place. place.node) places.now ≡ naming_in condition.now event.now.name
-            → uses_by other self.new ≡ uses_by other self.old +
-            (if id.key == other.key then offer.kept else 0)) }
+        ensures remembers { OnOk result (OnOfferIn self.old condition.now places.now id event.now env.now
+            (λ event_of sights sight. Remembers event_of self.new condition.now (sights ++ sight ∷ []))) }
+        ensures kept { IfOk result (λ offer. OnOfferIn self.old condition.now places.now id event.now env.now
+            (λ event_of sights sight. offer.kept ≡ newly_in condition.now sights sight)) }
+        ensures holds { IfOk result (λ offer. OnOfferIn self.old condition.now places.now id event.now env.now
+            (λ event_of sights sight. offer.holds ≡ seen.holds condition.now (sights ++ sight ∷ []))) }
+        ensures uses { IfOk result (λ offer. OfEachIdIn self.old condition.now places.now event.now
+            (λ other. uses_by other self.new ≡ uses_by other self.old + (if id.key == other.key then offer.kept else 0))) }
         ensures unchanged { OnErr result (self.new ≡ self.old) }
     {
         match condition {
