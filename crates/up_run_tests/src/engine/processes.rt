@@ -2,8 +2,8 @@
 use crate::engine::{Case, Given, Row, SPAWN_D, STARTED, STARTING, check_cases};
 use std::process::Abort;
 use std::test::Fail;
-use up_job::next_state;
-use up_model::{Goal, How, Process, State};
+use up_job::{entering, judge_end, next_state};
+use up_model::{End, EndRules, Goal, How, JobEvent, Process, State, Verdict};
 
 const SPAWN_PRE_START: &'static str =
     "spawn a() PreStart [/bin/p ] in / silent=false UPSTART_EVENTS=go UPSTART_JOB=a UPSTART_INSTANCE=; ";
@@ -203,4 +203,30 @@ fn a_stop_passes_pre_stop_if_main_lives(rt: HostRuntime) {
     let living = next_state(Goal::Stop, State::Running, true, true);
     let gone = next_state(Goal::Stop, State::Running, true, false);
     assert_eq!(rt; (living.name(), gone.name()), ("pre-stop", "stopping"));
+}
+
+#[test]
+fn a_crash_respawns_and_a_refused_post_start_does_nothing(rt: HostRuntime) {
+    let rules = EndRules {
+        is_task: false,
+        respawns: true,
+        is_normal: false,
+        may_respawn: true,
+    };
+    let crashed = End::Ended(How::Exit(1));
+    let respawned = judge_end(Goal::Start, State::Running, Process::Main, crashed, rules);
+    let noted = judge_end(
+        Goal::Start,
+        State::PostStart,
+        Process::PostStart,
+        End::Refused,
+        rules,
+    );
+    assert!(rt; matches!(respawned, Verdict::Respawn) && matches!(noted, Verdict::Note));
+}
+
+#[test]
+fn an_instance_announces_that_it_is_starting(rt: HostRuntime) {
+    let actions = entering(State::Starting, State::Waiting, false);
+    assert!(rt; matches!(actions.emits, Some(JobEvent::Starting)) && actions.refreshes);
 }
