@@ -1,41 +1,33 @@
 -- What a step comes to that handles no event: all instances settle, and a client that didn't wait is answered.
-use Rattle.std.proofs.Common.{◌≡◌, ℕ, zero, suc, Bool, true, false, not, List, [], ◌∷◌, ◌++◌, length, Option, None, Some, is_some, if◌then◌else◌, refl, sym, ◌∙◌, ap, subst, eq-eqb, append_assoc}
-use Rattle.std.specs.List.{AllByRecursion}
-use Rattle.up_conf.specs.declared.job.JobDef.{JobDef}
-use Rattle.up_stanza.specs.declared.process.Process.{Process}
-use Rattle.up_model.specs.declared.event.Event.{Event}
+use Rattle.up_cascade.proofs.Names.{◌≡◌, ℕ, zero, suc, Bool, true, false, not, List, [], ◌∷◌, ◌++◌, length, Option}
+use Rattle.up_cascade.proofs.Names.{None, Some, is_some, if◌then◌else◌, refl, sym, ◌∙◌, ap, subst, append_assoc}
+use Rattle.up_cascade.proofs.Names.{eq-eqb, AllByRecursion, JobDef, Process, Event, Input, Stop, Chronicle, Entry}
+use Rattle.up_cascade.proofs.Names.{Given, Handled, Offered, Aimed, Signalled, Configuration, due, effect, Instance}
+use Rattle.up_cascade.proofs.Names.{instances_of, instance_named, may_leave, move, offering, is_start, entries_if}
+use Rattle.up_cascade.proofs.Names.{or_else, goal, releasing, asked, unless_answered, answering_hurried}
+use Rattle.up_cascade.proofs.Names.{answering_last, offer_next, releasing-all, same-append, all-append, all-if}
+use Rattle.up_cascade.proofs.Names.{AreDistinct, settle_one, settle_each, settle_all}
 use Rattle.up_model.specs.declared.failure.End.{End}
 use Rattle.up_model.specs.declared.failure.End.TheVariants as end
 use Rattle.up_model.specs.declared.failure.Failure.{Failure}
 use Rattle.up_model.specs.declared.failure.Verdict.{Verdict}
 use Rattle.up_model.specs.declared.failure.Verdict.TheVariants as verdict
-use Rattle.up_model.specs.declared.input.Input.{Input}
 use Rattle.up_model.specs.declared.input.Input.TheVariants as input
-use Rattle.up_model.specs.declared.state.Goal.TheVariants.{Stop}
-use Rattle.up_model.specs.Chronicle.{Chronicle, Entry, Given, Queued, Handled, Finished, Offered, Aimed, Failed, Signalled, Outside}
+use Rattle.up_model.specs.Chronicle.{Queued, Finished, Failed, Outside}
 use Rattle.up_model.specs.Clock.{all_overdue, kill, killing}
 use Rattle.up_model.specs.Commands.{outcome_of, entries_of}
-use Rattle.up_model.specs.Configuration.{Configuration}
 use Rattle.up_model.specs.Loads.{loading}
 use Rattle.up_model.proofs.EffectLaws.{loading-all}
-use Rattle.up_model.specs.Due.{due, end_of, telling, failed_event_of, finishing, turn_event, turn_of, effect, end_by}
+use Rattle.up_model.specs.Due.{end_of, telling, failed_event_of, finishing, turn_event, turn_of, end_by}
 use Rattle.up_model.specs.Files.{own_file, names_in_order}
 use Rattle.up_model.specs.Held.{is_spoilt}
-use Rattle.up_model.specs.Instances.{Instance, instances_of, instance_named}
 use Rattle.up_model.specs.Judgement.{end_itself, keep_failure, fail, carry_out, verdict_on_end}
-use Rattle.up_model.specs.Moves.{may_leave, move}
-use Rattle.up_model.specs.Offers.{offering}
-use Rattle.up_model.specs.Predicates.{is_start, entries_if, or_else}
 use Rattle.up_model.specs.Queue as queue
-use Rattle.up_model.specs.Readings.{goal, holders, failure}
-use Rattle.up_model.specs.Replies.{releasing, waiter, answering_waiter, asked, was_answered, unless_answered, unanswered, answering_hurried, answering_last}
+use Rattle.up_model.specs.Readings.{holders, failure}
+use Rattle.up_model.specs.Replies.{waiter, answering_waiter, was_answered, unanswered}
 use Rattle.up_model.specs.Work.{work}
-use Rattle.up_model.proofs.JobOffers.{offer_next}
-use Rattle.up_model.proofs.ReplyLaws.{Allows, releasing-all, answering_waiter-all, answering_hurried-all, outcome-all}
+use Rattle.up_model.proofs.ReplyLaws.{Allows, answering_waiter-all, answering_hurried-all, outcome-all}
 use Rattle.up_model.proofs.Settling.{settle_still}
-use Rattle.up_model.proofs.Sparing.{same-append, all-append, all-if}
-use Rattle.up_book.specs.Keeps.{AreDistinct}
-use Rattle.up_cascade.specs.Settling.{settle_one, settle_each, settle_all}
 use Rattle.up_cascade.proofs.JobMoves.{move_first, due-by}
 use Rattle.up_cascade.proofs.Firing.{stay-entry, stay-still, still-stay}
 use Rattle.up_cascade.proofs.Moving.{Stay}

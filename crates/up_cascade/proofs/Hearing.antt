@@ -1,38 +1,22 @@
 -- A step that handles an event: each job hears of it, and what comes of the chronicle stays.
-use Rattle.std.proofs.Common.{◌≡◌, ℕ, zero, suc, nat_lt, ◌+◌, ◌≤◌, ◌==◌, Bool, true, false, not, List, [], ◌∷◌, ◌++◌, length, Option, None, Some, is_some, bytes_eq, if◌then◌else◌, refl, sym, ◌∙◌, ap, subst, arith, append_assoc}
-use Rattle.std.specs.List.{AllByRecursion}
-use Rattle.up_conf.specs.declared.job.JobDef.{JobDef}
-use Rattle.up_model.specs.declared.input.Input.{Input}
-use Rattle.up_model.specs.declared.input.Input.TheVariants.{Turn}
-use Rattle.up_model.specs.declared.state.Goal.TheVariants.{Start}
-use Rattle.up_model.specs.declared.state.State.TheVariants.{Waiting}
-use Rattle.up_model.specs.declared.who.Who.{Who}
-use Rattle.up_model.specs.Chronicle.{Chronicle, Entry, Given, Handled, Offered, Fired, Made, Aimed, Entered, StartOn}
-use Rattle.up_model.specs.Configuration.{Configuration}
-use Rattle.up_model.specs.Due.{due, effect}
+use Rattle.up_cascade.proofs.Names.{◌≡◌, ℕ, zero, suc, nat_lt, ◌+◌, ◌≤◌, ◌==◌, Bool, true, false, not, List, [], ◌∷◌}
+use Rattle.up_cascade.proofs.Names.{◌++◌, length, Option, None, Some, is_some, bytes_eq, if◌then◌else◌, refl, sym}
+use Rattle.up_cascade.proofs.Names.{◌∙◌, ap, subst, arith, append_assoc, AllByRecursion, JobDef, Input, Turn, Start}
+use Rattle.up_cascade.proofs.Names.{Waiting, Who, Chronicle, Entry, Given, Handled, Offered, Fired, Made, Aimed}
+use Rattle.up_cascade.proofs.Names.{Entered, StartOn, Configuration, due, effect, events_at, Instance}
+use Rattle.up_cascade.proofs.Names.{without_instance, instances_of, place_named, instance_named, may_leave, next_of}
+use Rattle.up_cascade.proofs.Names.{move, offering, stop_offer, max_instances, start_of, who_called, start_who}
+use Rattle.up_cascade.proofs.Names.{start_by, start_offer, start_env, is_start, entries_if, or_else, goal, state_of}
+use Rattle.up_cascade.proofs.Names.{blocker, made_at, releasing, asked, unless_answered, answering_hurried}
+use Rattle.up_cascade.proofs.Names.{answering_last, seen, holds, taken, Bytes, Bindings, moves_at, HasFile, files}
+use Rattle.up_cascade.proofs.Names.{offer_next, moves-few, count, one_if, bytes_refl, instances-exist, same-append}
+use Rattle.up_cascade.proofs.Names.{nth, AreDistinct, nth-get, IsKnown, known-all, called, none-of-others, apart-back}
+use Rattle.up_cascade.proofs.Names.{Asked, OfStop, OfStart, settle_one, settle_each, settle_all, hear_stops, hear}
+use Rattle.up_cascade.proofs.Names.{hear_all, ListsAfter, NoneHolds}
 use Rattle.up_model.specs.Events as events_of
-use Rattle.up_model.specs.Events.{events_at}
-use Rattle.up_model.specs.Instances.{Instance, is_before, with_instance, without_instance, instances_of, all_instances, place_named, instance_named}
-use Rattle.up_model.specs.Moves.{may_leave, next_of, move}
-use Rattle.up_model.specs.Offers.{offering, stop_offer, max_instances, start_of, who_called, start_who, start_by, start_offer, start_env}
-use Rattle.up_model.specs.Predicates.{is_start, entries_if, or_else}
-use Rattle.up_model.specs.Readings.{goal, state_of, blocker, made_at}
-use Rattle.up_model.specs.Replies.{releasing, asked, unless_answered, answering_hurried, answering_last}
-use Rattle.up_model.specs.Seen.{seen, holds, taken}
-use Rattle.up_model.specs.Values.{Bytes, Bindings}
-use Rattle.up_model.specs.Work.{moves_at}
-use Rattle.up_model.proofs.MoveLaws.{moves-few}
-use Rattle.up_model.proofs.Places.{count, one_if, bytes_refl, count-older, all_instances-older, instances-exist}
-use Rattle.up_model.proofs.Sparing.{same-append}
-use Rattle.up_model.proofs.JobOffers.{offer_next}
-use Rattle.up_book.specs.Keeps.{AreDistinct}
-use Rattle.up_book.proofs.One.{IsKnown, known-all, called, none-of-others, apart-back}
-use Rattle.up_job.specs.Lists.{nth}
-use Rattle.up_cascade.specs.Offering.{Asked, OfStop, OfStart}
-use Rattle.up_cascade.specs.Settling.{settle_one, settle_each, settle_all, hear_stops, hear_start, hear, hear_all, ListsAfter, after_in}
-use Rattle.up_book.proofs.Keyed.{nth-get}
-use Rattle.up_cascade.specs.Unfired.{NoneHolds}
-use Rattle.up_model.proofs.FileLaws.{HasFile, files}
+use Rattle.up_model.specs.Instances.{is_before, with_instance, all_instances}
+use Rattle.up_model.proofs.Places.{count-older, all_instances-older}
+use Rattle.up_cascade.specs.Settling.{hear_start, after_in}
 use Rattle.up_cascade.proofs.JobMoves.{move_first, due-by}
 use Rattle.up_cascade.proofs.Unfired.{none-stop, none-start, none-one}
 use Rattle.up_cascade.proofs.Acts.{Fires, releases, stop-of, start-all}

@@ -1,3 +1,4 @@
+pub mod Names
 pub mod Entries
 pub mod EventKeys
 pub mod LoadLemmas

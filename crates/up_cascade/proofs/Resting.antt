@@ -1,28 +1,16 @@
 -- Instances settle one after another: those before rest, and what comes of the chronicle stays.
-use Rattle.std.proofs.Common.{◌≡◌, ℕ, zero, suc, ◌+◌, ◌≤◌, ◌==◌, Bool, true, false, List, [], ◌∷◌, ◌++◌, Some, is_some, bytes_eq, if◌then◌else◌, refl, sym, ◌∙◌, ap, subst, arith, eq-eqb, append_assoc, append-nil}
-use Rattle.std.specs.List.{AllByRecursion}
-use Rattle.up_conf.specs.declared.job.JobDef.{JobDef}
-use Rattle.up_model.specs.declared.state.State.{State}
-use Rattle.up_model.specs.declared.state.State.TheVariants.{Waiting, Starting, PreStart, Spawned, PostStart, Running, PreStop, Stopping, Killed, PostStop}
-use Rattle.up_model.specs.Chronicle.{Chronicle, Entry, Made, Entered}
-use Rattle.up_model.specs.Configuration.{Configuration}
-use Rattle.up_model.specs.Due.{due}
-use Rattle.up_model.specs.Instances.{Instance, without_instance, instances_of}
-use Rattle.up_model.specs.Life.{entering}
-use Rattle.up_model.specs.Moves.{may_leave, next_of, who_of, move, move_of, move_in}
-use Rattle.up_model.specs.Offers.{offering}
-use Rattle.up_model.specs.Predicates.{entries_if, or_else}
-use Rattle.up_model.specs.Readings.{goal, state_of, blocker, made_at}
-use Rattle.up_model.specs.Replies.{answering_last}
-use Rattle.up_model.specs.Values.{Bytes}
-use Rattle.up_model.specs.Work.{moves_at}
-use Rattle.up_model.proofs.JobOffers.{offer_next}
-use Rattle.up_model.proofs.MoveLaws.{moves-few}
-use Rattle.up_model.proofs.Places.{count, one_if, all_instances-once, instances-exist}
-use Rattle.up_model.proofs.Sparing.{same-append}
-use Rattle.up_book.specs.Keeps.{AreDistinct}
-use Rattle.up_book.proofs.One.{IsKnown, known-all, called, none-of-others, apart-back}
-use Rattle.up_cascade.specs.Settling.{settle_one, settle_each, settle_all, ListsAfter}
+use Rattle.up_cascade.proofs.Names.{◌≡◌, ℕ, zero, suc, ◌+◌, ◌≤◌, ◌==◌, Bool, true, false, List, [], ◌∷◌, ◌++◌, Some}
+use Rattle.up_cascade.proofs.Names.{is_some, bytes_eq, if◌then◌else◌, refl, sym, ◌∙◌, ap, subst, arith, append_assoc}
+use Rattle.up_cascade.proofs.Names.{eq-eqb, append-nil, AllByRecursion, JobDef, State, Waiting, Starting, PreStart}
+use Rattle.up_cascade.proofs.Names.{Spawned, PostStart, Running, PreStop, Stopping, Killed, PostStop, Chronicle}
+use Rattle.up_cascade.proofs.Names.{Entry, Made, Entered, Configuration, due, Instance, without_instance}
+use Rattle.up_cascade.proofs.Names.{instances_of, entering, may_leave, next_of, move, who_of, offering, entries_if}
+use Rattle.up_cascade.proofs.Names.{or_else, goal, state_of, blocker, made_at, answering_last, Bytes, moves_at}
+use Rattle.up_cascade.proofs.Names.{offer_next, moves-few, count, one_if, instances-exist, same-append, AreDistinct}
+use Rattle.up_cascade.proofs.Names.{IsKnown, known-all, called, none-of-others, apart-back, settle_one, settle_each}
+use Rattle.up_cascade.proofs.Names.{settle_all, ListsAfter}
+use Rattle.up_model.specs.Moves.{move_of, move_in}
+use Rattle.up_model.proofs.Places.{all_instances-once}
 use Rattle.up_cascade.proofs.JobMoves.{move_first, due-by}
 use Rattle.up_cascade.proofs.Entries.{or_else-some}
 use Rattle.up_cascade.proofs.MoveLemmas.{filled_move}

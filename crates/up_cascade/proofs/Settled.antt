@@ -1,33 +1,19 @@
 -- All moves of the one instance that may move.
-use Rattle.std.proofs.Common.{◌≡◌, ℕ, zero, suc, ◌≤◌, ◌&&◌, Bool, true, false, List, [], ◌∷◌, ◌++◌, Option, None, Some, if◌then◌else◌, refl, sym, ◌∙◌, ap, subst, arith}
-use Rattle.std.specs.List.{AllByRecursion}
-use Rattle.up_conf.specs.declared.job.JobDef.{JobDef}
-use Rattle.up_stanza.specs.declared.process.Process.{Process}
+use Rattle.up_cascade.proofs.Names.{◌≡◌, ℕ, zero, suc, ◌≤◌, Bool, true, false, List, [], ◌∷◌, ◌++◌, Option, None}
+use Rattle.up_cascade.proofs.Names.{Some, if◌then◌else◌, refl, sym, ◌∙◌, ap, subst, arith, ◌&&◌, AllByRecursion}
+use Rattle.up_cascade.proofs.Names.{JobDef, Process, JobEvent, Start, Stop, State, Waiting, Starting, PreStart}
+use Rattle.up_cascade.proofs.Names.{Spawned, PostStart, Running, PreStop, Stopping, Killed, PostStop, Who, Chronicle}
+use Rattle.up_cascade.proofs.Names.{Entry, Made, Entered, Signalled, Ordered, Configuration, Instance, instances_of}
+use Rattle.up_cascade.proofs.Names.{entering, wait_in, may_leave, next_of, move, has_process, emitting, ordering}
+use Rattle.up_cascade.proofs.Names.{enter, enter_whole, who_of, is_start, entries_if, goal, state_of, lives}
+use Rattle.up_cascade.proofs.Names.{releasing, Bytes, moves_at, releasing-all, same-append, all-append, all-if, nth}
+use Rattle.up_cascade.proofs.Names.{AreDistinct, Asked, settle_one}
 use Rattle.up_stanza.specs.declared.process.Process.TheVariants.{Main}
 use Rattle.up_model.specs.declared.life.EntryActions as table
-use Rattle.up_model.specs.declared.life.JobEvent.{JobEvent}
 use Rattle.up_model.specs.declared.state.Goal.{Goal}
-use Rattle.up_model.specs.declared.state.Goal.TheVariants.{Start, Stop}
-use Rattle.up_model.specs.declared.state.State.{State}
-use Rattle.up_model.specs.declared.state.State.TheVariants.{Waiting, Starting, PreStart, Spawned, PostStart, Running, PreStop, Stopping, Killed, PostStop}
-use Rattle.up_model.specs.declared.who.Who.{Who}
-use Rattle.up_model.specs.Chronicle.{Chronicle, Entry, Made, Entered, Ordered, Signalled}
-use Rattle.up_model.specs.Configuration.{Configuration}
-use Rattle.up_model.specs.Instances.{Instance, instances_of}
-use Rattle.up_model.specs.Life.{if_whole, next_state, wait_in, entering}
-use Rattle.up_model.specs.Moves.{has_process, emitting, ordering, enter, enter_whole, is_over, may_leave, next_of, who_of, move}
-use Rattle.up_model.specs.Predicates.{is_start, entries_if}
-use Rattle.up_model.specs.Readings.{goal, state_of, lives}
-use Rattle.up_model.specs.Replies.{releasing}
-use Rattle.up_model.specs.Values.{Bytes}
-use Rattle.up_model.specs.Work.{moves_at}
+use Rattle.up_model.specs.Life.{if_whole, next_state}
+use Rattle.up_model.specs.Moves.{is_over}
 use Rattle.up_model.proofs.MoveLaws.{IsMove, move-goal, enter-moves, enter-state}
-use Rattle.up_model.proofs.ReplyLaws.{releasing-all}
-use Rattle.up_model.proofs.Sparing.{same-append, all-append, all-if}
-use Rattle.up_book.specs.Keeps.{AreDistinct}
-use Rattle.up_job.specs.Lists.{nth}
-use Rattle.up_cascade.specs.Offering.{Asked}
-use Rattle.up_cascade.specs.Settling.{settle_one}
 use Rattle.up_cascade.proofs.Offering.{rested}
 use Rattle.up_cascade.proofs.Firing.{IsHandling, IsAt}
 use Rattle.up_cascade.proofs.Measure.{move-fewer, move-gone}

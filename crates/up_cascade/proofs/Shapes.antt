@@ -1,35 +1,22 @@
 -- An offer that fires, and a move: what is left to be offered after them, and what comes of the step.
-use Rattle.std.proofs.Common.{◌≡◌, ℕ, nat_lt, ◌&&◌, ◌||◌, Bool, true, false, not, List, [], ◌∷◌, ◌++◌, length, Option, None, Some, bytes_eq, if◌then◌else◌, refl, sym, ◌∙◌, ap, subst, eq-eqb, append_assoc}
-use Rattle.std.specs.List.{AllByRecursion}
-use Rattle.up_conf.specs.declared.job.JobDef.{JobDef}
-use Rattle.up_stanza.specs.declared.process.Process.{Process}
+use Rattle.up_cascade.proofs.Names.{◌≡◌, ℕ, nat_lt, Bool, true, false, not, List, [], ◌∷◌, ◌++◌, length, Option, None}
+use Rattle.up_cascade.proofs.Names.{Some, bytes_eq, if◌then◌else◌, refl, sym, ◌∙◌, ap, subst, append_assoc, eq-eqb}
+use Rattle.up_cascade.proofs.Names.{◌&&◌, ◌||◌, AllByRecursion, JobDef, Process, JobEvent, Start, State, Who}
+use Rattle.up_cascade.proofs.Names.{Chronicle, Entry, Offered, Fired, Made, Aimed, Entered, StartOn, Signalled}
+use Rattle.up_cascade.proofs.Names.{Expression, Ordered, StopOn, Configuration, due, events_at, Instance}
+use Rattle.up_cascade.proofs.Names.{instances_of, place_named, instance_named, entering, may_leave, next_of, move}
+use Rattle.up_cascade.proofs.Names.{has_process, emitting, ordering, enter, enter_whole, who_of, offering, stop_offer}
+use Rattle.up_cascade.proofs.Names.{max_instances, start_of, who_called, start_who, start_by, start_offer, start_env}
+use Rattle.up_cascade.proofs.Names.{is_start, entries_if, or_else, goal, state_of, lives, releasing, answering_last}
+use Rattle.up_cascade.proofs.Names.{seen, holds, taken, Bytes, Bindings, offer_next, bytes_refl, releasing-all}
+use Rattle.up_cascade.proofs.Names.{all-append, all-if, nth, AreDistinct, Asked, OfStop, OfStart}
 use Rattle.up_stanza.specs.declared.process.Process.TheVariants as process
 use Rattle.up_model.specs.declared.life.EntryActions as table
-use Rattle.up_model.specs.declared.life.JobEvent.{JobEvent}
-use Rattle.up_model.specs.declared.state.Goal.TheVariants.{Start}
-use Rattle.up_model.specs.declared.state.State.{State}
-use Rattle.up_model.specs.declared.who.Who.{Who}
-use Rattle.up_model.specs.Chronicle.{Chronicle, Entry, Expression, Offered, Fired, Made, Aimed, Entered, Ordered, Signalled, StartOn, StopOn}
-use Rattle.up_model.specs.Configuration.{Configuration}
-use Rattle.up_model.specs.Due.{due}
 use Rattle.up_model.specs.Environments.{env_of_job, instance_name}
-use Rattle.up_model.specs.Events.{events_at, events_env, with_instance, stopped_by}
-use Rattle.up_model.specs.Instances.{Instance, instances_of, place_named, instance_named}
-use Rattle.up_model.specs.Life.{entering}
-use Rattle.up_model.specs.Moves.{has_process, emitting, ordering, enter, enter_whole, may_leave, next_of, who_of, move}
-use Rattle.up_model.specs.Offers.{is_newborn, is_open, stop_of, stop_by, stop_offer, max_instances, start_of, who_called, start_who, start_by, start_offer, start_env, offering}
-use Rattle.up_model.specs.Predicates.{is_start, entries_if, or_else}
-use Rattle.up_model.specs.Readings.{goal, state_of, lives}
-use Rattle.up_model.specs.Replies.{releasing, answering_last}
-use Rattle.up_model.specs.Seen.{same_expression, seen, holds, taken, was_offered}
-use Rattle.up_model.specs.Values.{Bytes, Bindings}
-use Rattle.up_model.proofs.Places.{bytes_refl}
-use Rattle.up_model.proofs.ReplyLaws.{releasing-all}
-use Rattle.up_model.proofs.Sparing.{all-append, all-if}
-use Rattle.up_model.proofs.JobOffers.{offer_next}
-use Rattle.up_job.specs.Lists.{nth}
-use Rattle.up_book.specs.Keeps.{AreDistinct}
-use Rattle.up_cascade.specs.Offering.{Asked, OfStop, OfStart, expression_of, open_stops, open_start, open_all, offer_at}
+use Rattle.up_model.specs.Events.{events_env, with_instance, stopped_by}
+use Rattle.up_model.specs.Offers.{is_newborn, is_open, stop_of, stop_by}
+use Rattle.up_model.specs.Seen.{same_expression, was_offered}
+use Rattle.up_cascade.specs.Offering.{expression_of, open_stops, open_start, open_all, offer_at}
 use Rattle.up_book.proofs.Lists.{cons_same}
 use Rattle.up_cascade.proofs.JobMoves.{move_first, due-by}
 use Rattle.up_cascade.proofs.Moving.{first-moves}

@@ -1,32 +1,21 @@
 -- A job that doesn't hear of an event is passed by: the book stands for what it makes of the chronicle without being told.
-use Rattle.std.proofs.Common.{◌≡◌, ℕ, zero, suc, ◌+◌, ◌-◌, ◌<◌, ◌≤◌, ◌==◌, Bool, true, false, ◌||◌, List, [], ◌∷◌, ◌++◌, length, drop, Option, None, Some, if◌then◌else◌, refl, sym, ◌∙◌, ap, subst, arith, append_assoc, append-nil, length-append, eqb-true, ne_eqb}
-use Rattle.std.specs.List.{AllByRecursion}
-use Rattle.up_conf.specs.declared.job.JobDef.{JobDef}
-use Rattle.up_job.specs.Lists.{nth}
+use Rattle.up_cascade.proofs.Names.{◌≡◌, ℕ, zero, suc, ◌+◌, ◌≤◌, ◌==◌, Bool, true, false, List, [], ◌∷◌, ◌++◌, length}
+use Rattle.up_cascade.proofs.Names.{Option, None, Some, if◌then◌else◌, refl, sym, ◌∙◌, ap, subst, arith, append_assoc}
+use Rattle.up_cascade.proofs.Names.{◌||◌, append-nil, AllByRecursion, JobDef, Event, Turn, Chronicle, Given, Handled}
+use Rattle.up_cascade.proofs.Names.{Offered, StartOn, Expression, StopOn, Configuration, due, Instance, instances_of}
+use Rattle.up_cascade.proofs.Names.{wait_in, may_leave, stop_offer, start_offer, state_of, seen, holds, Bytes}
+use Rattle.up_cascade.proofs.Names.{HasFile, files, nth, AreDistinct, nth-get, settle_one, settle_each, hear_stops}
+use Rattle.up_cascade.proofs.Names.{hear, hear_all, NoneHolds}
+use Rattle.std.proofs.Common.{◌-◌, ◌<◌, drop, length-append, eqb-true, ne_eqb}
 use Rattle.up_job.specs.declared.instance_key.InstanceKey.{InstanceKey}
 use Rattle.up_marks.specs.Ruling.{may_hear}
 use Rattle.up_marks.specs.Skipping.{Stops, Starts}
 use Rattle.up_marks.proofs.Ruled.{unheard-offer, holds-unheard}
-use Rattle.up_model.specs.declared.event.Event.{Event}
 use Rattle.up_model.specs.declared.event_id.EventId.{EventId}
-use Rattle.up_model.specs.declared.input.Input.TheVariants.{Turn}
-use Rattle.up_model.specs.Chronicle.{Chronicle, Expression, Given, Handled, Offered, StartOn, StopOn}
-use Rattle.up_model.specs.Configuration.{Configuration}
-use Rattle.up_model.specs.Due.{due}
-use Rattle.up_model.specs.Instances.{Instance, instances_of}
-use Rattle.up_model.specs.Life.{wait_in}
-use Rattle.up_model.specs.Moves.{may_leave}
-use Rattle.up_model.specs.Offers.{stop_offer, start_offer}
-use Rattle.up_model.specs.Readings.{state_of, entry_at, event_of, event_at, file_of}
-use Rattle.up_model.specs.Seen.{seen, holds}
-use Rattle.up_model.specs.Values.{Bytes}
+use Rattle.up_model.specs.Readings.{entry_at, event_of, event_at, file_of}
 use Rattle.up_book.specs.Hearers.{AreDeaf, IsDeaf, hears, one_hears}
-use Rattle.up_book.specs.Keeps.{AreDistinct}
 use Rattle.up_book.specs.Keys.{job_at, instance_at, instance_place}
-use Rattle.up_book.proofs.Keyed.{nth-get, job-there}
-use Rattle.up_model.proofs.FileLaws.{HasFile, files}
-use Rattle.up_cascade.specs.Settling.{settle_one, settle_each, hear_stops, hear, hear_all}
-use Rattle.up_cascade.specs.Unfired.{NoneHolds}
+use Rattle.up_book.proofs.Keyed.{job-there}
 use Rattle.up_cascade.specs.Unheard.{AreUnheard, NoneHears}
 use Rattle.up_cascade.proofs.Firing.{IsHandling}
 use Rattle.up_cascade.proofs.Handling.{all_asked, all-apart}

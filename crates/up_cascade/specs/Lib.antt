@@ -8,3 +8,5 @@ pub mod Offering
 pub mod Settling
 -- Jobs by their names.
 pub mod Naming
+-- What is said of each history for which a book stands, and of those who hold an instance in it.
+pub mod Histories

@@ -1,14 +1,12 @@
 //! The environment of a start: that of the job file its instance was made from, and what the start adds (init(5), "Job environment").
-ghost use Rattle.std.specs.Prelude.{◌≡◌, ℕ, List, map, Some, IfOk};
+ghost use Rattle.std.specs.Prelude.{◌≡◌, ℕ, Some, IfOk};
 ghost use Rattle.up_book.specs.Keys.{Mode, instance_place, job_at};
+ghost use Rattle.up_cascade.specs.Histories.{OfEvents, job_env_by, request_env_by, start_env_by};
 ghost use Rattle.up_conf.specs.declared.job.JobDef.{JobDef as JobValue};
 ghost use Rattle.up_model.specs.Chronicle.{Chronicle};
 ghost use Rattle.up_model.specs.Commands as commands;
 ghost use Rattle.up_model.specs.Environments as environments;
-ghost use Rattle.up_model.specs.Events as events;
-ghost use Rattle.up_model.specs.Offers as offers;
 ghost use Rattle.up_model.specs.Readings as read;
-ghost use Rattle.up_text.specs.Bindings.{set_all};
 
 use crate::events::events_env;
 use crate::setup::Setup;
@@ -46,12 +44,9 @@ pub(crate) fn start_env<B: Book>(
     at_hand: Env,
     keys: &[EventId],
 ) -> Result<Env, AllocError>
-    ensures { IfOk result (λ environment. (mode : Mode) (c : Chronicle) (job : JobValue) (places : List ℕ)
-        → B.stands book.now mode setup.now c → job_at setup.now index ≡ Some job
-        → map (B.event_place book.now c) keys.now ≡ map Some places
-        → at_hand ≡ events.events_env (environments.env_of_job setup.now job.name) (events.events_at places c)
-        → environment ≡ offers.start_env setup.now (offers.who_called job.name (Some name.now))
-        (events.events_at places c) c) }
+    ensures { IfOk result (λ environment.
+        OfEvents (B.stands book.now) (B.event_place book.now) setup.now index keys.now (λ c job places.
+        at_hand ≡ job_env_by setup.now job places c → environment ≡ start_env_by setup.now job name.now places c)) }
 {
     match book.find(index, name) {
         Some(key) => {
@@ -76,8 +71,7 @@ pub fn request_start_env<B: Book>(
     ensures { IfOk result (λ environment. (mode : Mode) (c : Chronicle) (job : JobValue)
         → B.stands book.now mode setup.now c → job_at setup.now index ≡ Some job
         → at_hand ≡ commands.request_env setup.now job vars.now
-        → environment ≡ set_all (environments.start_base setup.now
-        (record { job = job.name; instance = name.now }) c) vars.now) }
+        → environment ≡ request_env_by setup.now job name.now vars.now c) }
 {
     match book.find(index, name) {
         Some(key) => {

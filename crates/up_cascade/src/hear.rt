@@ -1,15 +1,14 @@
 //! How each job hears of the event that a turn takes up.
-ghost use Rattle.std.specs.Prelude.{◌≡◌, ◌≤◌, ◌<◌, ◌||◌, ℕ, true, ◌++◌, ◌∷◌, [], length, Some, IsOk, IfOk, IfSome, MatchOption, OnOk};
+ghost use Rattle.std.specs.Prelude.{◌≡◌, ◌≤◌, ◌<◌, ◌||◌, ℕ, true, ◌++◌, [], length, Some, IsOk, IfOk, IfSome, MatchOption, OnOk};
 ghost use Rattle.up_book.specs.Hearers.{hears, one_hears};
 ghost use Rattle.up_book.specs.Histories.{KeepsPlaces, OfEvent, OfOffer};
 ghost use Rattle.up_book.specs.Keys.{Stepping, job_at, name_at};
+ghost use Rattle.up_cascade.specs.Histories.{taken_up};
 ghost use Rattle.up_cascade.specs.Settling.{settle_one, ListsAfter};
 ghost use Rattle.up_cascade.specs.Settling as settling;
 ghost use Rattle.up_cascade.specs.Unfired.{NoneHolds};
 ghost use Rattle.up_cascade.specs.Unheard.{AreUnheard, NoneHears};
-ghost use Rattle.up_model.specs.declared.input.Input.TheVariants as given_as;
 ghost use Rattle.up_model.specs.Chronicle.{Chronicle};
-ghost use Rattle.up_model.specs.Chronicle as entry;
 ghost use Rattle.up_model.specs.Due.{due};
 ghost use Rattle.up_model.specs.Readings.{event_at};
 ghost use Rattle.up_model.specs.Instances.{instances_of};
@@ -182,10 +181,10 @@ pub fn hear_all<B: Book>(
     event: EventId,
 ) -> Result<(), AllocError>
     ensures after { OnOk result ((c : Chronicle) (e : ℕ) → due setup.now c ≡ [] → NoneHolds setup.now c
-        → B.stands book.old Stepping setup.now (entry.Handled e ∷ entry.Given given_as.Turn ∷ c)
-        → B.event_place book.old (entry.Handled e ∷ entry.Given given_as.Turn ∷ c) event ≡ Some e
+        → B.stands book.old Stepping setup.now (taken_up e c)
+        → B.event_place book.old (taken_up e c) event ≡ Some e
         → B.stands book.new Stepping setup.now
-        (settling.hear_all setup.now setup.now.jobs e (entry.Handled e ∷ entry.Given given_as.Turn ∷ c))) }
+        (settling.hear_all setup.now setup.now.jobs e (taken_up e c))) }
     ensures unheard { OfEvent (B.stands book.old Stepping) (B.event_place book.old) setup.now event (λ c e.
         NoneHears setup.now (event_at e c) c → IsOk result × (book.new ≡ book.old)) }
 {

@@ -1,7 +1,8 @@
 //! The moves of instances from state to state.
-ghost use Rattle.std.specs.Prelude.{◌≡◌, ℕ, false, not, ◌&&◌, ◌||◌, ◌∷◌, [], ◌++◌, Option, Some, IfOk, OnOk};
-ghost use Rattle.up_book.specs.Histories.{KeepsPlaces, OfInstance, OfWhole, adding};
+ghost use Rattle.std.specs.Prelude.{◌≡◌, ℕ, false, not, ◌&&◌, ◌||◌, ◌∷◌, [], ◌++◌, Some, IfOk, OnOk};
+ghost use Rattle.up_book.specs.Histories.{KeepsPlaces, OfInstance, OfWhole};
 ghost use Rattle.up_book.specs.Keys.{Mode, Stepping, instance_at};
+ghost use Rattle.up_cascade.specs.Histories.{after_entering};
 ghost use Rattle.up_cascade.specs.Settling.{settle_one, ListsAfter};
 ghost use Rattle.up_model.specs.declared.state.State.TheVariants as entered;
 ghost use Rattle.up_model.specs.Chronicle.{Chronicle};
@@ -207,18 +208,14 @@ fn enter_with<B: Book>(
     table: EntryActions,
 ) -> Result<(), AllocError>
     ensures after { OnOk result (OfWhole (B.stands book.old Stepping) setup.now key (λ c its.
-        its.file ≡ job.now → is_waiting to ≡ false → B.stands book.new Stepping setup.now
-        (adding (model.emitting job.now (model.who_of job.now its) its.place to table.emits)
-        (model.ordering job.now its.place table.orders ++ entry.Entered its.place to ∷ c)))) }
+        its.file ≡ job.now → is_waiting to ≡ false
+        → B.stands book.new Stepping setup.now (after_entering job.now its to table c))) }
     ensures events { OnOk result (OfWhole (B.stands book.old Stepping) setup.now key (λ c its.
-        its.file ≡ job.now → is_waiting to ≡ false → KeepsPlaces B.event_place book.old book.new c
-        (adding (model.emitting job.now (model.who_of job.now its) its.place to table.emits)
-        (model.ordering job.now its.place table.orders ++ entry.Entered its.place to ∷ c)))) }
+        its.file ≡ job.now → is_waiting to ≡ false
+        → KeepsPlaces B.event_place book.old book.new c (after_entering job.now its to table c))) }
     ensures stays { OnOk result (OfWhole (B.stands book.old Stepping) setup.now key (λ c its.
-        its.file ≡ job.now → is_waiting to ≡ false → instance_at setup.now
-        (adding (model.emitting job.now (model.who_of job.now its) its.place to table.emits)
-        (model.ordering job.now its.place table.orders ++ entry.Entered its.place to ∷ c))
-        key ≡ Some its)) }
+        its.file ≡ job.now → is_waiting to ≡ false
+        → instance_at setup.now (after_entering job.now its to table c) key ≡ Some its)) }
 {
     book.enter(key, to)?;
     order(setup, book, job, key, table.orders)?;

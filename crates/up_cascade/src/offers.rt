@@ -1,13 +1,14 @@
 //! How the event of a turn is offered to the expressions, and the effect of one that fires.
-ghost use Rattle.std.specs.Prelude.{◌≡◌, ℕ, nat_lt, length, List, ◌++◌, map, None, Some, IfOk, OnOk};
-ghost use Rattle.up_book.specs.Histories.{HoldersAt, KeepsPlaces, OfInstance};
-ghost use Rattle.up_book.specs.Keys.{called, job_at, Mode, Stepping, name_at, instance_place};
+ghost use Rattle.std.specs.Prelude.{◌≡◌, ℕ, nat_lt, length, List, ◌++◌, map, Some, IfOk, OnOk};
+ghost use Rattle.up_book.specs.Histories.{KeepsPlaces, OfInstance};
+ghost use Rattle.up_cascade.specs.Histories.{IsUnmade, OfHeld, OfStarted, start_made, start_named};
+ghost use Rattle.up_book.specs.Keys.{job_at, Mode, Stepping, name_at, instance_place};
 ghost use Rattle.up_model.specs.Chronicle.{Chronicle};
 ghost use Rattle.up_model.specs.Configuration.{Configuration};
 ghost use Rattle.up_conf.specs.declared.job.JobDef.{JobDef as JobValue};
 ghost use Rattle.up_model.specs.declared.who.Who.{Who as WhoValue};
 ghost use Rattle.up_model.specs.Environments as environments;
-ghost use Rattle.up_model.specs.Instances.{instance_named, instances_of};
+ghost use Rattle.up_model.specs.Instances.{instances_of};
 ghost use Rattle.up_cascade.specs.Offering.{after_start_on, after_stop_on};
 ghost use Rattle.up_model.specs.Offers as model;
 ghost use Rattle.up_model.specs.Readings as read;
@@ -30,14 +31,12 @@ pub fn stop_of<B: Book>(
     environment: Env,
     holders: Holders,
 ) -> Result<(), AllocError>
-    ensures after { OnOk result ((config : Configuration) (c : Chronicle) (i : ℕ) (places : List ℕ)
-        → B.stands book.old Stepping config c → instance_place config c key ≡ Some i
-        → HoldersAt (B.event_place book.old) holders places c
-        → B.stands book.new Stepping config (model.stop_of i environment places c ++ c)) }
-    ensures events { OnOk result ((config : Configuration) (c : Chronicle) (i : ℕ) (places : List ℕ)
-        → B.stands book.old Stepping config c → instance_place config c key ≡ Some i
-        → HoldersAt (B.event_place book.old) holders places c
-        → KeepsPlaces B.event_place book.old book.new c (model.stop_of i environment places c ++ c)) }
+    ensures after { OnOk result ((config : Configuration)
+        → OfHeld (B.stands book.old Stepping) (B.event_place book.old) config key holders (λ c i places.
+        B.stands book.new Stepping config (model.stop_of i environment places c ++ c))) }
+    ensures events { OnOk result ((config : Configuration)
+        → OfHeld (B.stands book.old Stepping) (B.event_place book.old) config key holders (λ c i places.
+        KeepsPlaces B.event_place book.old book.new c (model.stop_of i environment places c ++ c))) }
 {
     book.release(key)?;
     book.aim(key, Goal::Stop, environment, holders)?;
@@ -116,14 +115,12 @@ fn start_old<B: Book>(
     environment: Env,
     holders: Holders,
 ) -> Result<(), AllocError>
-    ensures after { OnOk result ((config : Configuration) (c : Chronicle) (job : JobValue) (who : WhoValue) (i : ℕ)
-        (places : List ℕ) → B.stands book.old Stepping config c → instance_place config c key ≡ Some i
-        → HoldersAt (B.event_place book.old) holders places c
-        → B.stands book.new Stepping config (model.start_of job who environment places (Some i) c ++ c)) }
-    ensures events { OnOk result ((config : Configuration) (c : Chronicle) (job : JobValue) (who : WhoValue) (i : ℕ)
-        (places : List ℕ) → B.stands book.old Stepping config c → instance_place config c key ≡ Some i
-        → HoldersAt (B.event_place book.old) holders places c → KeepsPlaces B.event_place book.old book.new c
-        (model.start_of job who environment places (Some i) c ++ c)) }
+    ensures after { OnOk result ((config : Configuration) (job : JobValue) (who : WhoValue)
+        → OfHeld (B.stands book.old Stepping) (B.event_place book.old) config key holders (λ c i places.
+        B.stands book.new Stepping config (model.start_of job who environment places (Some i) c ++ c))) }
+    ensures events { OnOk result ((config : Configuration) (job : JobValue) (who : WhoValue)
+        → OfHeld (B.stands book.old Stepping) (B.event_place book.old) config key holders (λ c i places.
+        KeepsPlaces B.event_place book.old book.new c (model.start_of job who environment places (Some i) c ++ c))) }
 {
     if !book.goal(key).is_start() {
         book.release(key)?;
@@ -150,16 +147,14 @@ fn start_new<B: Book>(
     environment: Env,
     holders: Holders,
 ) -> Result<(), AllocError>
-    ensures after { OnOk result ((config : Configuration) (c : Chronicle) (places : List ℕ)
-        → B.stands book.old Stepping config c → job_at config index ≡ Some file.now
-        → instance_named (called file.now.name name.now) c ≡ None
-        → HoldersAt (B.event_place book.old) holders places c
-        → B.stands book.new Stepping config (model.start_of file.now (called file.now.name name.now) environment places None c ++ c)) }
-    ensures events { OnOk result ((config : Configuration) (c : Chronicle) (places : List ℕ)
-        → B.stands book.old Stepping config c → job_at config index ≡ Some file.now
-        → instance_named (called file.now.name name.now) c ≡ None
-        → HoldersAt (B.event_place book.old) holders places c → KeepsPlaces B.event_place book.old book.new c
-        (model.start_of file.now (called file.now.name name.now) environment places None c ++ c)) }
+    ensures after { OnOk result ((config : Configuration)
+        → OfStarted (B.stands book.old Stepping) (B.event_place book.old) config index file.now holders (λ c places.
+        IsUnmade file.now name.now c
+        → B.stands book.new Stepping config (start_made file.now name.now environment places c ++ c))) }
+    ensures events { OnOk result ((config : Configuration)
+        → OfStarted (B.stands book.old Stepping) (B.event_place book.old) config index file.now holders (λ c places.
+        IsUnmade file.now name.now c
+        → KeepsPlaces B.event_place book.old book.new c (start_made file.now name.now environment places c ++ c))) }
 {
     if has_room(book, index) {
         let key = book.make(index, file, name)?;
@@ -177,16 +172,12 @@ fn start_of<B: Book>(
     environment: Env,
     holders: Holders,
 ) -> Result<(), AllocError>
-    ensures after { OnOk result ((config : Configuration) (c : Chronicle) (places : List ℕ)
-        → B.stands book.old Stepping config c → job_at config index ≡ Some file.now
-        → HoldersAt (B.event_place book.old) holders places c
-        → B.stands book.new Stepping config (model.start_of file.now (called file.now.name name.now) environment places
-        (instance_named (called file.now.name name.now) c) c ++ c)) }
-    ensures events { OnOk result ((config : Configuration) (c : Chronicle) (places : List ℕ)
-        → B.stands book.old Stepping config c → job_at config index ≡ Some file.now
-        → HoldersAt (B.event_place book.old) holders places c → KeepsPlaces B.event_place book.old book.new c
-        (model.start_of file.now (called file.now.name name.now) environment places
-        (instance_named (called file.now.name name.now) c) c ++ c)) }
+    ensures after { OnOk result ((config : Configuration)
+        → OfStarted (B.stands book.old Stepping) (B.event_place book.old) config index file.now holders (λ c places.
+        B.stands book.new Stepping config (start_named file.now name.now environment places c ++ c))) }
+    ensures events { OnOk result ((config : Configuration)
+        → OfStarted (B.stands book.old Stepping) (B.event_place book.old) config index file.now holders (λ c places.
+        KeepsPlaces B.event_place book.old book.new c (start_named file.now name.now environment places c ++ c))) }
 {
     match book.find(index, name) {
         Some(key) => start_old(book, key, environment, holders)?,
@@ -204,16 +195,14 @@ pub fn start_called<B: Book>(
     mut environment: Env,
     holders: Holders,
 ) -> Result<(), AllocError>
-    ensures after { OnOk result ((config : Configuration) (c : Chronicle) (places : List ℕ)
-        → B.stands book.old Stepping config c → job_at config index ≡ Some file.now
-        → HoldersAt (B.event_place book.old) holders places c
-        → B.stands book.new Stepping config (model.start_who file.now environment places
-        (model.who_called file.now.name (Some name.now)) c ++ c)) }
-    ensures events { OnOk result ((config : Configuration) (c : Chronicle) (places : List ℕ)
-        → B.stands book.old Stepping config c → job_at config index ≡ Some file.now
-        → HoldersAt (B.event_place book.old) holders places c → KeepsPlaces B.event_place book.old book.new c
-        (model.start_who file.now environment places
-        (model.who_called file.now.name (Some name.now)) c ++ c)) }
+    ensures after { OnOk result ((config : Configuration)
+        → OfStarted (B.stands book.old Stepping) (B.event_place book.old) config index file.now holders (λ c places.
+        B.stands book.new Stepping config (model.start_who file.now environment places
+        (model.who_called file.now.name (Some name.now)) c ++ c))) }
+    ensures events { OnOk result ((config : Configuration)
+        → OfStarted (B.stands book.old Stepping) (B.event_place book.old) config index file.now holders (λ c places.
+        KeepsPlaces B.event_place book.old book.new c (model.start_who file.now environment places
+        (model.who_called file.now.name (Some name.now)) c ++ c))) }
 {
     add_instance(&mut environment, &file.job().name, name)?;
     start_of(book, index, file, name, environment, holders)?;

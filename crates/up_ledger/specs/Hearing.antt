@@ -1,19 +1,21 @@
 -- What an offer and a firing make of a trigger.
-use Rattle.std.specs.Prelude.{◌≡◌, ℕ, ◌+◌, ◌==◌, List, [], ◌∷◌, ◌++◌, map, Option, None, Some, if◌then◌else◌}
+use Rattle.std.specs.Prelude.{◌≡◌, ℕ, ◌+◌, ◌==◌, List, [], ◌∷◌, ◌++◌, map, true, Option, None, Some, if◌then◌else◌}
 use Rattle.up_expr.specs.Trees.{Tree}
 use Rattle.up_expr.specs.Truth.{Sight}
+use Rattle.up_image.specs.Index.{named}
+use Rattle.up_image.specs.declared.index.Place.{Place}
 use Rattle.up_job.specs.Lists.{nth}
 use Rattle.up_job.specs.declared.instance.Instance.{Instance}
 use Rattle.up_job.specs.declared.instance_key.InstanceKey.{InstanceKey}
 use Rattle.up_job.specs.declared.instances.JobInstances.{JobInstances}
 use Rattle.up_marks.specs.Agreeing.{sight_of}
-use Rattle.up_marks.specs.Naming.{naming_in}
+use Rattle.up_marks.specs.Naming.{naming_in, of_expression}
 use Rattle.up_marks.specs.Triggers.{Remembers, kept_by, uses_by}
 use Rattle.up_marks.specs.declared.mark.Mark.{Mark}
 use Rattle.up_marks.specs.declared.marks.Offer.{Offer}
 use Rattle.up_marks.specs.declared.trigger.Firing.{Firing}
 use Rattle.up_model.specs.Seen.{holds, taken}
-use Rattle.up_model.specs.Values.{Bindings}
+use Rattle.up_model.specs.Values.{Bindings, Bytes}
 use Rattle.up_model.specs.declared.event.Event.{Event}
 use Rattle.up_model.specs.declared.event_id.EventId.{EventId}
 use Rattle.up_book.specs.Views.{Places, kept_at}
@@ -33,6 +35,10 @@ trigger_if (Some trigger) = trigger
 -- what the `start on` of the job at a place remembers
 abbrev pub trigger_in : ℕ → List (Option (List Mark)) → Option (List Mark)
 trigger_in job triggers = trigger_if (nth job triggers)
+
+-- the leaves of the `start on` of the job at a place that an index has for events of a name
+abbrev pub start_leaves : List Place → (job : ℕ) → Bytes → List ℕ
+start_leaves index job name = map (λ place. place.node) (of_expression job true (named name index))
 
 -- an event was offered to the leaves at these places
 pub record Hears (old new : Option (List Mark)) (condition : Option Tree) (nodes : List ℕ) (id : EventId) (event : Event) (env : Bindings) (offer : Offer) : Type 0 where

@@ -28,3 +28,5 @@ pub mod Steps
 pub mod Hearing
 -- What a ledger stands for.
 pub mod Ledgers
+-- What is said of each history that a book forgets.
+pub mod Histories

@@ -1,21 +1,18 @@
 //! Offers of events to expressions, and the firing of expressions.
-ghost use Rattle.std.specs.Prelude.{◌≡◌, ◌++◌, ◌∷◌, ℕ, List, [], false, true, map, replicate, Some, IfOk, OnOk};
+ghost use Rattle.std.specs.Prelude.{◌≡◌, ◌∷◌, ℕ, map, Some, IfOk, OnOk};
 ghost use Rattle.up_ledger.specs.Eventing.{SamePlaces};
-ghost use Rattle.up_ledger.specs.Hearing.{Fires, Hears, trigger_at, trigger_in};
-ghost use Rattle.up_book.specs.Hearers.{HasLeaves};
-ghost use Rattle.up_ledger.specs.Holding.{freed, all_changed, as_holders};
-ghost use Rattle.up_conf.specs.declared.job.JobDef.{JobDef as JobValue};
-ghost use Rattle.up_event.specs.LiveEvents.{named as named_event, with_hold};
+ghost use Rattle.up_ledger.specs.Hearing.{Fires, Hears, start_leaves, trigger_at, trigger_in};
+ghost use Rattle.up_ledger.specs.Histories.{OfStartFiring, OfStartOffer, OfStopFiring, OfStopOffer};
+ghost use Rattle.up_book.specs.Histories.{start_events, stop_events};
+ghost use Rattle.up_event.specs.LiveEvents.{named as named_event};
 ghost use Rattle.up_event.specs.declared.live.LiveEvent.{LiveEvent as LiveEventValue};
-ghost use Rattle.up_image.specs.Index.{named};
 ghost use Rattle.up_job.specs.JobLists.{changed_at};
 ghost use Rattle.up_job.specs.Lending.{with_stop_on};
-ghost use Rattle.up_job.specs.Lists.{nth, with_at};
-ghost use Rattle.up_marks.specs.Naming.{naming_in, of_expression};
+ghost use Rattle.up_job.specs.Lists.{with_at};
+ghost use Rattle.up_marks.specs.Naming.{naming_in};
 ghost use Rattle.up_model.specs.Chronicle.{Chronicle};
 ghost use Rattle.up_model.specs.Chronicle as entry;
 ghost use Rattle.up_model.specs.Configuration.{Configuration};
-ghost use Rattle.up_model.specs.Environments.{env_of_job};
 ghost use Rattle.up_model.specs.Readings as read;
 ghost use Rattle.up_model.specs.Seen as seen;
 
@@ -98,16 +95,11 @@ impl Past {
         file: &JobFile,
         id: EventId,
     ) -> Result<bool, AllocError>
-        ensures after { OnOk result ((config : Configuration) (c : Chronicle) (i e : ℕ) → Forgets self.old config c
-            → instance_place self.old c key ≡ Some i → read.file_of i c ≡ Some file.now
-            → event_place self.old c id ≡ Some e
-            → Forgets self.new config (entry.Offered (entry.StopOn i) e ∷ c)) }
-        ensures holds { IfOk result (λ holds. (config : Configuration) (c : Chronicle) (i e : ℕ)
-            → Forgets self.old config c
-            → instance_place self.old c key ≡ Some i → read.file_of i c ≡ Some file.now
-            → event_place self.old c id ≡ Some e
-            → holds ≡ seen.holds file.now.stop_on
-            (seen.seen config (entry.StopOn i) (entry.Offered (entry.StopOn i) e ∷ c))) }
+        ensures after { OnOk result (OfStopOffer self.old key file.now id (λ config c i e.
+            Forgets self.new config (entry.Offered (entry.StopOn i) e ∷ c))) }
+        ensures holds { IfOk result (λ holds. OfStopOffer self.old key file.now id (λ config c i e.
+            holds ≡ seen.holds file.now.stop_on
+            (seen.seen config (entry.StopOn i) (entry.Offered (entry.StopOn i) e ∷ c)))) }
         ensures places { OnOk result (SamePlaces self.new.events self.old.events) }
     {
         let env = self.env_copy(alloc, key)?;
@@ -132,8 +124,7 @@ impl Past {
         ensures reading { OnOk result (self.new.reading ≡ self.old.reading) }
         ensures hears { IfOk result (λ offer. (live : LiveEventValue) → named_event id self.old.events ≡ Some live
             → Hears (trigger_in place self.old.starts.items) (trigger_in place self.new.starts.items) job.now.start_on
-            (map (λ place. place.node) (of_expression place true (named live.event.name index.now)))
-            id live.event env.now offer) }
+            (start_leaves index.now place live.event.name) id live.event env.now offer) }
     {
         let number = number_of(place)?;
         match self.events.find(id) {
@@ -166,16 +157,11 @@ impl Past {
         env: &Env,
         id: EventId,
     ) -> Result<bool, AllocError>
-        ensures after { OnOk result ((config : Configuration) (c : Chronicle) (e : ℕ) → Forgets self.old config c
-            → nth place config.jobs ≡ Some job.now → env.now ≡ env_of_job config job.now.name
-            → HasLeaves index.now place true job.now.start_on → event_place self.old c id ≡ Some e
-            → Forgets self.new config (entry.Offered (entry.StartOn job.now.name) e ∷ c)) }
-        ensures holds { IfOk result (λ holds. (config : Configuration) (c : Chronicle) (e : ℕ)
-            → Forgets self.old config c
-            → nth place config.jobs ≡ Some job.now → env.now ≡ env_of_job config job.now.name
-            → HasLeaves index.now place true job.now.start_on → event_place self.old c id ≡ Some e
-            → holds ≡ seen.holds job.now.start_on
-            (seen.seen config (entry.StartOn job.now.name) (entry.Offered (entry.StartOn job.now.name) e ∷ c))) }
+        ensures after { OnOk result (OfStartOffer self.old index.now place job.now env.now id (λ config c e.
+            Forgets self.new config (entry.Offered (entry.StartOn job.now.name) e ∷ c))) }
+        ensures holds { IfOk result (λ holds. OfStartOffer self.old index.now place job.now env.now id (λ config c e.
+            holds ≡ seen.holds job.now.start_on
+            (seen.seen config (entry.StartOn job.now.name) (entry.Offered (entry.StartOn job.now.name) e ∷ c)))) }
         ensures places { OnOk result (SamePlaces self.new.events self.old.events) }
     {
         let offer = self.offer_to_start(alloc, index, place, job, id, env)?;
@@ -206,15 +192,11 @@ impl Past {
         key: InstanceKey,
         job: &JobDef,
     ) -> Result<Items<EventId>, AllocError>
-        ensures after { OnOk result ((config : Configuration) (c : Chronicle) (i : ℕ) (ts : List ℕ)
-            → Forgets self.old config c → instance_place self.old c key ≡ Some i
-            → read.file_of i c ≡ Some job.now
-            → Forgets self.new config (entry.Fired (entry.StopOn i) ts ∷ c)) }
-        ensures taken { IfOk result (λ taken. (config : Configuration) (c : Chronicle) (i : ℕ) (ts : List ℕ)
-            → Forgets self.old config c → instance_place self.old c key ≡ Some i
-            → read.file_of i c ≡ Some job.now
-            → map (event_place self.new (entry.Fired (entry.StopOn i) ts ∷ c)) taken
-            ≡ map Some (seen.taken job.now.stop_on (seen.seen config (entry.StopOn i) c))) }
+        ensures after { OnOk result (OfStopFiring self.old key job.now (λ config c i ts.
+            Forgets self.new config (entry.Fired (entry.StopOn i) ts ∷ c))) }
+        ensures taken { IfOk result (λ taken. OfStopFiring self.old key job.now (λ config c i ts.
+            map (event_place self.new (entry.Fired (entry.StopOn i) ts ∷ c)) taken
+            ≡ map Some (stop_events config job.now i c))) }
         ensures places { OnOk result (SamePlaces self.new.events self.old.events) }
     {
         let Firing { taken, kept } = self.fire_stop_of(alloc, key, job)?;
@@ -247,13 +229,11 @@ impl Past {
         place: usize,
         job: &JobDef,
     ) -> Result<Items<EventId>, AllocError>
-        ensures after { OnOk result ((config : Configuration) (c : Chronicle) (ts : List ℕ) → Forgets self.old config c
-            → nth place config.jobs ≡ Some job.now
-            → Forgets self.new config (entry.Fired (entry.StartOn job.now.name) ts ∷ c)) }
-        ensures taken { IfOk result (λ taken. (config : Configuration) (c : Chronicle) (ts : List ℕ)
-            → Forgets self.old config c → nth place config.jobs ≡ Some job.now
-            → map (event_place self.new (entry.Fired (entry.StartOn job.now.name) ts ∷ c)) taken
-            ≡ map Some (seen.taken job.now.start_on (seen.seen config (entry.StartOn job.now.name) c))) }
+        ensures after { OnOk result (OfStartFiring self.old place job.now (λ config c ts.
+            Forgets self.new config (entry.Fired (entry.StartOn job.now.name) ts ∷ c))) }
+        ensures taken { IfOk result (λ taken. OfStartFiring self.old place job.now (λ config c ts.
+            map (event_place self.new (entry.Fired (entry.StartOn job.now.name) ts ∷ c)) taken
+            ≡ map Some (start_events config job.now c))) }
         ensures places { OnOk result (SamePlaces self.new.events self.old.events) }
     {
         let Firing { taken, kept } = self.fire_start_of(alloc, place, job)?;

@@ -1,11 +1,10 @@
 //! A book that forgets.
-ghost use Rattle.std.specs.Prelude.{◌≡◌, ℕ, List, ◌∷◌, [], map, Some, false, true, length, option_map, nat_lt, if◌then◌else◌, IfOk, IfNone, OnSome, OnOk};
+ghost use Rattle.std.specs.Prelude.{◌≡◌, ℕ, List, ◌∷◌, [], Some, false, true, length, option_map, nat_lt, if◌then◌else◌, IfOk, IfNone, OnSome, OnOk};
 ghost use Rattle.up_job.specs.Lists.{nth};
 ghost use Rattle.up_conf.specs.declared.job.JobDef.{JobDef as JobValue};
 ghost use Rattle.up_model.specs.Due.{turn_event};
 ghost use Rattle.up_model.specs.Instances.{instance_named};
 ghost use Rattle.up_book.specs.Turning.{turn_at};
-ghost use Rattle.up_model.specs.declared.event.Event.{Event as EventValue};
 ghost use Rattle.up_model.specs.declared.input.Input.{Input as InputValue};
 ghost use Rattle.up_model.specs.declared.input.Input.TheVariants as given_as;
 ghost use Rattle.up_model.specs.declared.process.How.{How as HowValue};
@@ -21,27 +20,23 @@ ghost use Rattle.up_model.specs.Readings as read;
 ghost use Rattle.up_event.specs.LiveEvents.{with_change, as_handled, named, without, outcome_of, AreDistinct};
 ghost use Rattle.up_event.specs.declared.live.LiveEvent.{LiveEvent as LiveEventValue};
 ghost use Rattle.up_model.specs.Held.{is_held};
-ghost use Rattle.up_ledger.specs.Eventing.{SamePlaces, finished_at, number_of};
+ghost use Rattle.up_ledger.specs.Eventing.{SamePlaces, finished_at};
 ghost use Rattle.up_model.specs.declared.event_id.EventId.{EventId as EventIdValue};
 ghost use Rattle.up_model.specs.Predicates.{is_waiting};
-ghost use Rattle.up_book.specs.Keeps.{AreOlder};
 ghost use Rattle.up_book.specs.Keys.{SpeaksOf, name_of, called};
 ghost use Rattle.up_job.specs.InstanceLists.{new_instance};
 ghost use Rattle.up_job.specs.JobLists.{with_made, removed_at, position_at};
 ghost use Rattle.up_job.specs.declared.instance.Instance.{Instance as InstanceValue};
 ghost use Rattle.up_job.specs.Lists.{with_at};
-ghost use Rattle.up_ledger.specs.Holding.{AllLive};
+ghost use Rattle.up_ledger.specs.Histories.{TakesHolders, outside_waiter, with_last, with_outside};
 ghost use Rattle.up_job.specs.declared.instance_key.InstanceKey.{InstanceKey as InstanceKeyValue};
-ghost use Rattle.up_book.specs.Summaries.{holding_at};
 ghost use Rattle.up_ledger.specs.Remembering.{StartsRemember};
 ghost use Rattle.up_book.specs.Unblocking.{IsBlockedBy};
-ghost use Rattle.up_book.specs.Views.{Places, holding_of, kept_at};
+ghost use Rattle.up_book.specs.Views.{Places, kept_at};
 ghost use Rattle.up_model.specs.Values.{Bindings};
 ghost use Rattle.up_model.specs.declared.state.Goal.TheVariants as aim;
-ghost use Rattle.up_model.specs.declared.state.State.TheVariants as entered;
 ghost use Rattle.up_marks.specs.Triggers.{kept_by};
 ghost use Rattle.up_ledger.specs.Holding.{freed, all_changed, all_kept, as_holders};
-ghost use Rattle.up_model.specs.Replies.{waiter_in};
 
 use crate::holding::{free_all_of, free_held, free_ids, hold_all};
 use std::alloc::{AllocError, Global};
@@ -206,10 +201,8 @@ impl Past {
     /// An event from outside goes to the end of the queue.
     pub(crate) fn emit(&mut self, event: Event, waiter: Option<u64>) -> Result<(), AllocError>
         ensures { OnOk result ((config : Configuration) (c : Chronicle) (input : InputValue)
-            → Forgets self.old config (entry.Given input ∷ c) →
-            number_of (waiter_in (Some (entry.Queued (entry.Outside (length c)) event))
-            (entry.Queued (entry.Outside (length c)) event ∷ entry.Given input ∷ c)) (entry.Queued (entry.Outside (length c)) event ∷ entry.Given input ∷ c) ≡ waiter
-            → Forgets self.new config (entry.Queued (entry.Outside (length c)) event ∷ entry.Given input ∷ c)) }
+            → Forgets self.old config (entry.Given input ∷ c) → outside_waiter event input c ≡ waiter
+            → Forgets self.new config (with_outside event input c)) }
     {
         let _ = self.events.push(event, waiter)?;
         Ok(())
@@ -355,11 +348,8 @@ impl Past {
         environment: Env,
         holders: Items<Holder>,
     ) -> Result<(), AllocError>
-        ensures after { OnOk result ((config : Configuration) (c : Chronicle) (i : ℕ) (events : List ℕ)
-            → Forgets self.old config c → instance_place self.old c key ≡ Some i
-            → map (holding_of (event_place self.old c)) holders ≡ map (holding_at c) events
-            → AreOlder (length c) events → AllLive self.old.events holders
-            → Forgets self.new config (entry.Aimed i aim.Start environment events ∷ c)) }
+        ensures after { OnOk result (TakesHolders self.old self.new key holders (λ i events.
+            entry.Aimed i aim.Start environment events)) }
         ensures places { OnOk result (SamePlaces self.new.events self.old.events) }
     {
         hold_all(&mut self.events, holders.as_slice())?;
@@ -381,11 +371,8 @@ impl Past {
         environment: Env,
         holders: Items<Holder>,
     ) -> Result<(), AllocError>
-        ensures after { OnOk result ((config : Configuration) (c : Chronicle) (i : ℕ) (events : List ℕ)
-            → Forgets self.old config c → instance_place self.old c key ≡ Some i
-            → map (holding_of (event_place self.old c)) holders ≡ map (holding_at c) events
-            → AreOlder (length c) events → AllLive self.old.events holders
-            → Forgets self.new config (entry.Aimed i aim.Stop environment events ∷ c)) }
+        ensures after { OnOk result (TakesHolders self.old self.new key holders (λ i events.
+            entry.Aimed i aim.Stop environment events)) }
         ensures places { OnOk result (SamePlaces self.new.events self.old.events) }
     {
         hold_all(&mut self.events, holders.as_slice())?;
@@ -408,11 +395,8 @@ impl Past {
         environment: Env,
         holders: Items<Holder>,
     ) -> Result<(), AllocError>
-        ensures after { OnOk result ((config : Configuration) (c : Chronicle) (i : ℕ) (events : List ℕ)
-            → Forgets self.old config c → instance_place self.old c key ≡ Some i
-            → map (holding_of (event_place self.old c)) holders ≡ map (holding_at c) events
-            → AreOlder (length c) events → AllLive self.old.events holders
-            → Forgets self.new config (entry.Aimed i goal environment events ∷ c)) }
+        ensures after { OnOk result (TakesHolders self.old self.new key holders (λ i events.
+            entry.Aimed i goal environment events)) }
         ensures places { OnOk result (SamePlaces self.new.events self.old.events) }
     {
         match goal {
@@ -436,11 +420,7 @@ impl Past {
         key: InstanceKey,
         holders: Items<Holder>,
     ) -> Result<(), AllocError>
-        ensures { OnOk result ((config : Configuration) (c : Chronicle) (i : ℕ) (events : List ℕ)
-            → Forgets self.old config c → instance_place self.old c key ≡ Some i
-            → map (holding_of (event_place self.old c)) holders ≡ map (holding_at c) events
-            → AreOlder (length c) events → AllLive self.old.events holders
-            → Forgets self.new config (entry.Restarted i events ∷ c)) }
+        ensures { OnOk result (TakesHolders self.old self.new key holders (λ i events. entry.Restarted i events)) }
     {
         hold_all(&mut self.events, holders.as_slice())?;
         free_held(&mut self.events, self.instances.at(key), false);
@@ -560,14 +540,11 @@ impl Past {
     ) -> Result<(), AllocError>
         ensures after { OnOk result ((config : Configuration) (c : Chronicle) (i : ℕ)
             → Forgets self.old config c → instance_place self.old c key ≡ Some i
-            → Forgets self.new config
-            (entry.Queued (entry.Entering i entered.Waiting) event ∷ entry.Entered i entered.Waiting ∷ c)) }
+            → Forgets self.new config (with_last i event c)) }
         ensures events { OnOk result ((config : Configuration) (c : Chronicle) (i : ℕ) (k : EventIdValue) (j : ℕ)
             → Forgets self.old config c → instance_place self.old c key ≡ Some i
             → event_place self.old c k ≡ Some j
-            → event_place self.new
-            (entry.Queued (entry.Entering i entered.Waiting) event ∷ entry.Entered i entered.Waiting ∷ c) k
-            ≡ Some j) }
+            → event_place self.new (with_last i event c) k ≡ Some j) }
     {
         self.bury(alloc, key)?;
         let _ = self.events.push(event, None)?;

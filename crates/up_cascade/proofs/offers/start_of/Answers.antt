@@ -13,7 +13,7 @@ returns-in_ok-start_old-in-Some-clause-after g c config c' places s in_table kno
     let named = job_name config c.args.index c.args.file.now in_table in
     let who : Who = record { job = its; instance = c.args.name.now } in
     let found = named_some {K = InstanceKey} (instance_place config c') c.in-Some.key _ (c.in-Some.ensures.place Stepping config c' its s named) in
-    rw found.1 (c.in_ok-start_old-in-Some.ensures.after config c' c.args.file.now who found.0 places s found.2 known)
+    rw found.1 (c.in_ok-start_old-in-Some.ensures.after config c.args.file.now who c' found.0 places s found.2 known)
 
 pub returns-in_ok-start_new-in-None-clause-after : goal.returns-in_ok-start_new-in-None-clause-after
 returns-in_ok-start_new-in-None-clause-after g c config c' places s in_table known =
@@ -22,7 +22,7 @@ returns-in_ok-start_new-in-None-clause-after g c config c' places s in_table kno
     let who : Who = record { job = its; instance = c.args.name.now } in
     let there = rw c.in-None.is at (c.find.ensures.place Stepping config c' its s named) in
     let none : instance_named who c' ≡ None = named_none (instance_place config c') (instance_named who c') there in
-    rw none (c.in_ok-start_new-in-None.ensures.after config c' places s in_table none known)
+    rw none (c.in_ok-start_new-in-None.ensures.after config c' places s in_table known none)
 
 pub returns-in_ok-start_old-in-Some-clause-events : goal.returns-in_ok-start_old-in-Some-clause-events
 returns-in_ok-start_old-in-Some-clause-events g c config c' places s in_table known k j event =
@@ -30,7 +30,7 @@ returns-in_ok-start_old-in-Some-clause-events g c config c' places s in_table kn
     let named = job_name config c.args.index c.args.file.now in_table in
     let who : Who = record { job = its; instance = c.args.name.now } in
     let found = named_some {K = InstanceKey} (instance_place config c') c.in-Some.key _ (c.in-Some.ensures.place Stepping config c' its s named) in
-    rw found.1 (c.in_ok-start_old-in-Some.ensures.events config c' c.args.file.now who found.0 places s found.2 known k j event)
+    rw found.1 (c.in_ok-start_old-in-Some.ensures.events config c.args.file.now who c' found.0 places s found.2 known k j event)
 
 pub returns-in_ok-start_new-in-None-clause-events : goal.returns-in_ok-start_new-in-None-clause-events
 returns-in_ok-start_new-in-None-clause-events g c config c' places s in_table known k j event =
@@ -39,4 +39,4 @@ returns-in_ok-start_new-in-None-clause-events g c config c' places s in_table kn
     let who : Who = record { job = its; instance = c.args.name.now } in
     let there = rw c.in-None.is at (c.find.ensures.place Stepping config c' its s named) in
     let none : instance_named who c' ≡ None = named_none (instance_place config c') (instance_named who c') there in
-    rw none (c.in_ok-start_new-in-None.ensures.events config c' places s in_table none known k j event)
+    rw none (c.in_ok-start_new-in-None.ensures.events config c' places s in_table known none k j event)

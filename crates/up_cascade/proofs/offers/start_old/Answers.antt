@@ -8,7 +8,7 @@ use Rattle.up_model.specs.Replies.{releasing}
 use Rattle.up_cascade.proofs.offers.start_old.Goals as goal
 
 pub returns-in_ok-aim-clause-after : goal.returns-in_ok-aim-clause-after
-returns-in_ok-aim-clause-after g c config c' job who i places s there held =
+returns-in_ok-aim-clause-after g c config job who c' i places s there held =
     let d : Chronicle = releasing i false c' ++ c' in
     let same : c.is_start.result ≡ is_start (goal_of i c') = c.is_start.ensures ∙ ap is_start (c.goal.ensures Stepping config c' i s there) in
     let now = c.in_ok-release.ensures.after config c' i s there in
@@ -17,7 +17,7 @@ returns-in_ok-aim-clause-after g c config c' job who i places s there held =
     rw (sym same ∙ c.if-not-is_start.true) (c.in_ok-aim.ensures.after config d i places now here their)
 
 pub returns-in_ok-aim-clause-events : goal.returns-in_ok-aim-clause-events
-returns-in_ok-aim-clause-events g c config c' job who i places s there held k j event =
+returns-in_ok-aim-clause-events g c config job who c' i places s there held k j event =
     let d : Chronicle = releasing i false c' ++ c' in
     let same : c.is_start.result ≡ is_start (goal_of i c') = c.is_start.ensures ∙ ap is_start (c.goal.ensures Stepping config c' i s there) in
     let now = c.in_ok-release.ensures.after config c' i s there in
