@@ -1,11 +1,12 @@
 //! Which job is the first that an event may concern.
-use std::alloc::Global;
+use crate::files::files_of;
+use crate::queue::event;
+use std::alloc::{AllocError, Global};
 use std::test::Fail;
-use up_conf::Folder;
-use up_image::{JobFile, compile};
+use up_image::JobFile;
 use up_marks::{Finder, lesser_of};
 use up_model::Event;
-use up_text::{Env, Items, Name, Text};
+use up_text::{Env, TextFault};
 
 // Jobs of one stanza each, an event `go` with variables, and the first job, from one on, that it may concern.
 struct Case {
@@ -117,43 +118,58 @@ const CASES: &'static [Case] = &[
     },
 ];
 
-// The files of jobs with these stanzas, in this order.
-fn files_of(alloc: Global, stanzas: &[&'static str]) -> Result<Vec<JobFile>, Fail> {
-    let mut folder = Folder::new(alloc);
-    for (at, stanza) in stanzas.iter().enumerate() {
-        let path = format!(in alloc; "j{at}.conf")?;
-        let bytes = format!(in alloc; "{stanza}\nexec /bin/d\n")?;
-        folder.add(Text::new(path), Items::new(bytes.into_bytes()))?;
+fn set_all(vars: &mut Env, pairs: &[(&'static str, &'static str)]) -> Result<(), TextFault> {
+    for pair in pairs {
+        vars.set(pair.0, pair.1)?;
     }
-    let (table, _report) = compile(alloc, &folder)?;
-    Ok(table.into_files(alloc)?)
+    Ok(())
 }
 
-fn event_with(alloc: Global, variables: &[(&'static str, &'static str)]) -> Result<Event, Fail> {
-    let mut vars = Env::new(alloc);
-    for (key, value) in variables {
-        vars.set(*key, *value)?;
+fn event_with(alloc: Global, pairs: &[(&'static str, &'static str)]) -> Result<Event, Fail> {
+    let mut event = event(alloc, "go")?;
+    match set_all(&mut event.vars, pairs) {
+        Ok(()) => Ok(event),
+        Err(fault) => {
+            drop(event);
+            Err(Fail::from(fault))
+        }
     }
-    Ok(Event {
-        name: Name::new(alloc, "go")?,
-        vars,
-    })
 }
 
-fn next_of(alloc: Global, case: &Case) -> Result<Option<usize>, Fail> {
-    let event = event_with(alloc, case.vars)?;
+// Whether it is the next job that is found.
+fn is_next(
+    alloc: Global,
+    files: &[JobFile],
+    event: &Event,
+    case: &Case,
+) -> Result<bool, AllocError> {
+    match Finder::of(alloc, files) {
+        Ok(finder) => {
+            let next = finder.next_job(files, event, case.from);
+            drop(finder);
+            Ok(next == case.next)
+        }
+        Err(refused) => Err(refused),
+    }
+}
+
+fn finds(alloc: Global, event: &Event, case: &Case) -> Result<bool, Fail> {
     let files = files_of(alloc, case.jobs)?;
-    let finder = Finder::of(alloc, files.as_slice())?;
-    let next = finder.next_job(files.as_slice(), &event, case.from);
-    drop(finder);
+    let is_next = is_next(alloc, files.as_slice(), event, case);
     drop(files);
+    Ok(is_next?)
+}
+
+fn holds(alloc: Global, case: &Case) -> Result<bool, Fail> {
+    let event = event_with(alloc, case.vars)?;
+    let finds = finds(alloc, &event, case);
     drop(event);
-    Ok(next)
+    finds
 }
 
 fn check(alloc: Global, cases: &[Case]) -> Result<(), Fail> {
     for case in cases {
-        if next_of(alloc, case)? != case.next {
+        if !holds(alloc, case)? {
             return Err(Fail::from(case.name));
         }
     }
@@ -166,13 +182,7 @@ fn the_next_job_is_found_by_value(rt: HostRuntime) -> Result<(), Fail> {
 }
 
 #[test]
-fn the_lesser_of_two_is_found(rt: HostRuntime) -> Result<(), Fail> {
-    let lesser = (
-        lesser_of(Some(2), Some(1)),
-        lesser_of(Some(1), Some(2)),
-        lesser_of(None, Some(2)),
-        lesser_of(Some(1), None),
-    );
-    assert_eq!(rt; lesser, (Some(1), Some(1), Some(2), Some(1)));
-    Ok(())
+fn the_lesser_of_two_is_found(rt: HostRuntime) {
+    assert!(rt; lesser_of(Some(2), Some(1)) == Some(1) && lesser_of(Some(1), Some(2)) == Some(1));
+    assert!(rt; lesser_of(None, Some(2)) == Some(2) && lesser_of(Some(1), None) == Some(1));
 }

@@ -1,41 +1,17 @@
 //! Many events, in order.
-ghost use Rattle.std.specs.Prelude.{◌≡◌};
-ghost use Rattle.up_event.specs.LiveEvents.{IsLive, MayFinish};
-
-use crate::queue::event;
+use crate::queue::{event, turn};
 use std::alloc::Global;
 use std::test::Fail;
-use up_event::{Events, TurnKind};
-use up_model::EventId;
+use up_event::Events;
 
 const COUNT: u64 = 30_000;
 
-// Events of which each has its number as the client that waits.
-fn numbered(alloc: Global) -> Result<Events, Fail> {
-    let mut events = Events::new(alloc);
+// Adds events of which each has its number as the client that waits.
+fn push_numbered(alloc: Global, events: &mut Events) -> Result<(), Fail> {
     for number in 0..COUNT {
         events.push(event(alloc, "a")?, Some(number))?;
     }
-    Ok(events)
-}
-
-fn take(events: &mut Events, id: EventId, kind: TurnKind) -> Option<u64>
-    requires live { IsLive id events.old }
-    requires finishes { kind ≡ TurnKind.Finish → MayFinish id events.old }
-{
-    match kind {
-        TurnKind::Handle => {
-            events.handled(id);
-            None
-        }
-        TurnKind::Finish => events.finish(id).waiter,
-    }
-}
-
-/// Takes a turn, and returns the client that waited for the event, if one finished.
-pub(crate) fn turn(events: &mut Events) -> Option<u64> {
-    let (id, kind) = events.next_turn()?;
-    take(events, id, kind)
+    Ok(())
 }
 
 // Whether two turns take up an event and finish it, from the oldest to the newest.
@@ -48,10 +24,16 @@ fn finish_in_order(events: &mut Events) -> bool {
     true
 }
 
+fn are_in_order(alloc: Global, events: &mut Events) -> Result<bool, Fail> {
+    push_numbered(alloc, events)?;
+    Ok(finish_in_order(events) && events.len() == 0)
+}
+
 #[test]
 fn many_events_finish_in_order(rt: HostRuntime) -> Result<(), Fail> {
-    let mut events = numbered(rt.alloc())?;
-    let in_order = finish_in_order(&mut events);
-    assert_eq!(rt; (in_order, events.len()), (true, 0));
+    let mut events = Events::new(rt.alloc());
+    let in_order = are_in_order(rt.alloc(), &mut events);
+    drop(events);
+    assert!(rt; in_order?);
     Ok(())
 }

@@ -1,54 +1,78 @@
 //! Events that are offered to the leaves of one job's `start on`.
+use crate::files::files_of;
+use crate::queue::event;
 use std::alloc::Global;
 use std::test::Fail;
-use up_conf::Folder;
 use up_expr::Condition;
-use up_image::{JobFile, compile};
+use up_image::JobFile;
 use up_marks::{Index, Marks, Offer};
 use up_model::{Event, EventId};
-use up_text::{Env, Items, Name, Text};
+use up_text::Items;
 
-// What becomes of an expression that events are offered to.
-#[derive(Debug, Drop)]
-struct Outcome {
-    // What the last offer changed.
-    last: Offer,
-    // The events by which it is true, and then those that it gives up, by the order in which they were
-    // offered.
-    taken: Vec<usize>,
-    cleared: Vec<usize>,
-    // Whether it is true after that.
-    holds: bool,
+// A job's stanza, and what becomes of its expression if events of these names, numbered from 1, are offered to it.
+struct Case {
+    name: &'static str,
+    stanza: &'static str,
+    events: &'static [&'static str],
+    // To how many leaves the last one is new, and whether the expression is true then.
+    last: (usize, bool),
+    // The events by which it is true, and then those that it gives up, by the order in which they were offered.
+    taken: &'static [usize],
+    cleared: &'static [usize],
 }
 
-// The files of a folder of one job with this `start on`.
-fn files_of(alloc: Global, start_on: &str) -> Result<Vec<JobFile>, Fail> {
-    let mut folder = Folder::new(alloc);
-    let path = Text::from_str(alloc, "a.conf")?;
-    let bytes = format!(in alloc; "start on {start_on}\nexec /bin/d\n")?;
-    folder.add(path, Items::new(bytes.into_bytes()))?;
-    let (table, _report) = compile(alloc, &folder)?;
-    Ok(table.into_files(alloc)?)
-}
-
-fn event(alloc: Global, name: &str) -> Result<Event, Fail> {
-    Ok(Event {
-        name: Name::new(alloc, name)?,
-        vars: Env::new(alloc),
-    })
-}
-
-// The numbers of events.
-fn numbers(alloc: Global, ids: &Items<EventId>) -> Result<Vec<usize>, Fail> {
-    let mut numbers = Vec::new(alloc);
-    for id in ids.as_slice() {
-        numbers.push(id.key)?;
-    }
-    Ok(numbers)
-}
+const CASES: &'static [Case] = &[
+    Case {
+        name: "and_of_same_event",
+        stanza: "start on A and A",
+        events: &["A"],
+        last: (2, true),
+        taken: &[1, 1],
+        cleared: &[1, 1],
+    },
+    Case {
+        name: "and_keeps_first",
+        stanza: "start on A and B",
+        events: &["A", "A", "Z", "B"],
+        last: (1, true),
+        taken: &[1, 4],
+        cleared: &[1, 4],
+    },
+    Case {
+        name: "or_after_half_an_and",
+        stanza: "start on (A and D) or B",
+        events: &["A", "B"],
+        last: (1, true),
+        taken: &[2],
+        cleared: &[1, 2],
+    },
+    Case {
+        name: "half_an_and_does_not_hold",
+        stanza: "start on (A or C) and B",
+        events: &["C", "A"],
+        last: (1, false),
+        taken: &[],
+        cleared: &[2, 1],
+    },
+];
 
 // Offers an event to the leaves that name it. Its variables, of which it has none, are the environment too.
-fn offer_one(
+fn offer(
+    alloc: Global,
+    marks: &mut Marks,
+    index: &Index,
+    condition: &Condition,
+    id: EventId,
+    event: &Event,
+) -> Result<Offer, Fail> {
+    if !marks.fits(condition) {
+        return Err(Fail::from("the marks are of another expression"));
+    }
+    let places = index.leaves(&event.name, 0, true);
+    Ok(marks.offer(alloc, condition, places, id, event, &event.vars)?)
+}
+
+fn offer_named(
     alloc: Global,
     marks: &mut Marks,
     index: &Index,
@@ -56,44 +80,20 @@ fn offer_one(
     id: EventId,
     name: &str,
 ) -> Result<Offer, Fail> {
-    if !marks.fits(condition) {
-        return Err(Fail::from("the marks are of another expression"));
-    }
     let event = event(alloc, name)?;
-    let places = index.leaves(&event.name, 0, true);
-    let offer = marks.offer(alloc, condition, places, id, &event, &event.vars);
+    let offer = offer(alloc, marks, index, condition, id, &event);
     drop(event);
-    Ok(offer?)
+    offer
 }
 
-// What an expression takes, and what it gives up after that.
-fn clear(
-    alloc: Global,
-    marks: &mut Marks,
-    condition: &Condition,
-    last: Offer,
-) -> Result<Outcome, Fail> {
-    if !marks.fits(condition) {
-        return Err(Fail::from("the marks are of another expression"));
-    }
-    let taken = numbers(alloc, &marks.taken(alloc, condition)?)?;
-    let cleared = numbers(alloc, &marks.clear(alloc)?)?;
-    Ok(Outcome {
-        last,
-        taken,
-        cleared,
-        holds: marks.holds(),
-    })
-}
-
-// Offers the events of these names to an expression, numbered from 1.
+// Offers each event; what the last one changed.
 fn offer_each(
     alloc: Global,
+    marks: &mut Marks,
     index: &Index,
     condition: &Condition,
     names: &[&str],
-) -> Result<Outcome, Fail> {
-    let mut marks = Marks::new(alloc, condition)?;
+) -> Result<Offer, Fail> {
     let mut last = Offer {
         kept: 0,
         holds: false,
@@ -102,92 +102,93 @@ fn offer_each(
         let id = EventId {
             key: before.saturating_add(1),
         };
-        last = offer_one(alloc, &mut marks, index, condition, id, name)?;
+        last = offer_named(alloc, marks, index, condition, id, *name)?;
     }
-    clear(alloc, &mut marks, condition, last)
+    Ok(last)
 }
 
-// The same to the first job's `start on`.
-fn offer_to(alloc: Global, files: &[JobFile], names: &[&str]) -> Result<Outcome, Fail> {
-    let Some(file) = files.first() else {
-        return Err(Fail::from("there is no job"));
+fn are_numbered(ids: Items<EventId>, numbers: &[usize]) -> bool {
+    let its = ids.as_slice();
+    if its.len() != numbers.len() {
+        return false;
+    }
+    for at in 0..numbers.len() {
+        if its[at].key != numbers[at] {
+            return false;
+        }
+    }
+    true
+}
+
+// Whether these events are taken, and these given up after that.
+fn is_cleared(
+    alloc: Global,
+    marks: &mut Marks,
+    condition: &Condition,
+    case: &Case,
+) -> Result<bool, Fail> {
+    if !marks.fits(condition) {
+        return Err(Fail::from("the marks are of another expression"));
+    }
+    let taken = are_numbered(marks.taken(alloc, condition)?, case.taken);
+    let cleared = are_numbered(marks.clear(alloc)?, case.cleared);
+    Ok(taken && cleared && !marks.holds())
+}
+
+fn leaves(
+    alloc: Global,
+    marks: &mut Marks,
+    index: &Index,
+    condition: &Condition,
+    case: &Case,
+) -> Result<bool, Fail> {
+    let last = offer_each(alloc, marks, index, condition, case.events)?;
+    let cleared = is_cleared(alloc, marks, condition, case)?;
+    Ok(cleared && last.kept == case.last.0 && last.holds == case.last.1)
+}
+
+fn try_condition(
+    alloc: Global,
+    index: &Index,
+    condition: &Condition,
+    case: &Case,
+) -> Result<bool, Fail> {
+    let mut marks = Marks::new(alloc, condition)?;
+    let leaves = leaves(alloc, &mut marks, index, condition, case);
+    drop(marks);
+    leaves
+}
+
+fn try_files(alloc: Global, files: &[JobFile], case: &Case) -> Result<bool, Fail> {
+    let [file] = files else {
+        return Err(Fail::from("there isn't one job"));
     };
     let Some(condition) = &file.job().start_on else {
         return Err(Fail::from("there is no expression"));
     };
     let index = Index::of(alloc, files)?;
-    offer_each(alloc, &index, condition, names)
+    let tried = try_condition(alloc, &index, condition, case);
+    drop(index);
+    tried
 }
 
-// Whether the events of these names, offered to a job's `start on`, leave what is told: how many leaves the
-// last one is new to, whether the expression is true, by which events, and which it gives up.
-fn leaves(
-    alloc: Global,
-    start_on: &str,
-    names: &[&str],
-    last: (usize, bool),
-    taken: &[usize],
-    cleared: &[usize],
-) -> Result<bool, Fail> {
-    let files = files_of(alloc, start_on)?;
-    let outcome = offer_to(alloc, files.as_slice(), names);
+fn holds(alloc: Global, case: &Case) -> Result<bool, Fail> {
+    let files = files_of(alloc, &[case.stanza])?;
+    let tried = try_files(alloc, files.as_slice(), case);
     drop(files);
-    let outcome = outcome?;
-    Ok(
-        (outcome.last.kept, outcome.last.holds) == last
-            && outcome.taken.as_slice() == taken
-            && outcome.cleared.as_slice() == cleared
-            && !outcome.holds,
-    )
+    tried
 }
 
-#[test]
-fn and_of_same_event(rt: HostRuntime) -> Result<(), Fail> {
-    assert!(rt; leaves(rt.alloc(), "A and A", &["A"], (2, true), &[1, 1], &[1, 1])?);
+fn check(alloc: Global, cases: &[Case]) -> Result<(), Fail> {
+    for case in cases {
+        if !holds(alloc, case)? {
+            return Err(Fail::from(case.name));
+        }
+    }
     Ok(())
 }
 
 #[test]
-fn and_keeps_first(rt: HostRuntime) -> Result<(), Fail> {
-    assert!(rt;
-        leaves(
-            rt.alloc(),
-            "A and B",
-            &["A", "A", "Z", "B"],
-            (1, true),
-            &[1, 4],
-            &[1, 4]
-        )?
-    );
-    Ok(())
-}
-
-#[test]
-fn or_after_half_an_and(rt: HostRuntime) -> Result<(), Fail> {
-    assert!(rt;
-        leaves(
-            rt.alloc(),
-            "(A and D) or B",
-            &["A", "B"],
-            (1, true),
-            &[2],
-            &[1, 2]
-        )?
-    );
-    Ok(())
-}
-
-#[test]
-fn half_an_and_does_not_hold(rt: HostRuntime) -> Result<(), Fail> {
-    assert!(rt;
-        leaves(
-            rt.alloc(),
-            "(A or C) and B",
-            &["C", "A"],
-            (1, false),
-            &[],
-            &[2, 1]
-        )?
-    );
-    Ok(())
+fn events_are_kept_and_taken(rt: HostRuntime) -> Result<(), Fail> {
+    check(rt.alloc(), CASES)
 }

@@ -1,90 +1,152 @@
 //! Job files that several share, and the leaves of their expressions.
-use crate::folders::{MANY, table_of};
-use std::alloc::Global;
+use crate::folders::{MANY, image_of, table_of};
+use std::alloc::{AllocError, Global};
 use std::test::Fail;
-use up_image::{JobFile, MAX_JOBS, Place, Table, add_stops, places_of_files, sort_places};
+use up_conf::JobDef;
+use up_image::{
+    ImageError, JobFile, MAX_JOBS, Place, Table, add_stops, places_of_files, sort_places,
+};
+
+fn has_image(alloc: Global, table: Table, image: &[u8]) -> Result<bool, ImageError> {
+    let its = table.to_bytes(alloc);
+    drop(table);
+    match its {
+        Ok(its) => {
+            let same = its.as_slice() == image;
+            drop(its);
+            Ok(same)
+        }
+        Err(error) => Err(error),
+    }
+}
 
 // Whether a copy of a table has the table's image.
-fn is_copied(alloc: Global, table: &Table) -> Result<bool, Fail> {
-    let copy = table.copy(alloc)?;
-    let image = copy.to_bytes(alloc);
-    drop(copy);
-    let same = image?.as_slice() == table.to_bytes(alloc)?.as_slice();
-    Ok(same)
+fn is_copied(alloc: Global, table: &Table, image: &[u8]) -> Result<bool, ImageError> {
+    match table.copy(alloc) {
+        Ok(copy) => has_image(alloc, copy, image),
+        Err(refused) => Err(ImageError::from(refused)),
+    }
+}
+
+fn are_places(places: &[Place], expected: &[(&str, u16)]) -> bool {
+    if places.len() != expected.len() {
+        return false;
+    }
+    for at in 0..expected.len() {
+        if places[at].event.as_str() != expected[at].0 || places[at].node != expected[at].1 {
+            return false;
+        }
+    }
+    true
+}
+
+// The leaves of a `stop on`, in byte order of events and as they are written.
+const ORDERED: &'static [(&'static str, u16)] = &[("a", 1), ("b", 0), ("c", 2)];
+
+const WRITTEN: &'static [(&'static str, u16)] = &[("b", 0), ("a", 1), ("c", 2)];
+
+// Whether these are the leaves that a job adds.
+fn adds(
+    places: &mut Vec<Place>,
+    job: &JobDef,
+    written: &[(&str, u16)],
+) -> Result<bool, AllocError> {
+    add_stops(places, 1, job)?;
+    Ok(are_places(places.as_slice(), written))
+}
+
+fn adds_its_own(alloc: Global, job: JobDef) -> Result<bool, AllocError> {
+    let mut places = Vec::new(alloc);
+    let added = adds(&mut places, &job, WRITTEN);
+    drop(places);
+    drop(job);
+    added
+}
+
+fn has_stops(alloc: Global, file: &JobFile) -> Result<bool, AllocError> {
+    Ok(adds_its_own(alloc, file.job().copy(alloc)?)? && are_places(file.stops(), ORDERED))
+}
+
+// Whether the events of places are these, one after another.
+fn are_events(places: &[Place], events: &[&str]) -> bool {
+    if places.len() != events.len() {
+        return false;
+    }
+    for at in 0..events.len() {
+        if places[at].event.as_str() != events[at] {
+            return false;
+        }
+    }
+    true
+}
+
+const EVENTS: &'static [&'static str] = &[
+    "b", "runlevel", "stopped", "b", "a", "c", "a", "b", "c", "d", "and",
+];
+
+const SORTED: &'static [&'static str] = &[
+    "a", "a", "and", "b", "b", "b", "c", "c", "d", "runlevel", "stopped",
+];
+
+fn are_sorted(places: &mut Vec<Place>) -> Result<bool, AllocError> {
+    let written = are_events(places.as_slice(), EVENTS);
+    sort_places(places)?;
+    Ok(written && are_events(places.as_slice(), SORTED))
+}
+
+// Whether the leaves of jobs are in the order in which they are written, and are then sorted by their events.
+fn has_places(alloc: Global, files: &[JobFile]) -> Result<bool, AllocError> {
+    if files.len() > MAX_JOBS {
+        return Ok(false);
+    }
+    match places_of_files(alloc, files) {
+        Ok(mut places) => {
+            let sorted = are_sorted(&mut places);
+            drop(places);
+            sorted
+        }
+        Err(refused) => Err(refused),
+    }
+}
+
+fn are_files(alloc: Global, files: &[JobFile]) -> Result<bool, AllocError> {
+    match files.last() {
+        Some(file) => Ok(has_stops(alloc, file)? && has_places(alloc, files)?),
+        None => Ok(false),
+    }
+}
+
+fn gives_files(alloc: Global, table: Table) -> Result<bool, AllocError> {
+    match table.into_files(alloc) {
+        Ok(files) => {
+            let are_files = are_files(alloc, files.as_slice());
+            drop(files);
+            are_files
+        }
+        Err(refused) => Err(refused),
+    }
 }
 
 #[test]
 fn a_copy_has_the_same_image(rt: HostRuntime) -> Result<(), Fail> {
-    let table = table_of(rt.alloc(), MANY)?;
-    let copied = is_copied(rt.alloc(), &table);
-    drop(table);
+    let image = image_of(rt.alloc(), MANY)?;
+    let copied = match table_of(rt.alloc(), MANY) {
+        Ok(table) => copies(rt.alloc(), table, image.as_slice()),
+        Err(fail) => Err(fail),
+    };
+    drop(image);
     assert!(rt; copied?);
     Ok(())
 }
 
-fn are_places(places: &[Place], expected: &[(&str, u16)]) -> bool {
-    places.len() == expected.len()
-        && places
-            .iter()
-            .zip(expected)
-            .all(|(place, its)| (place.event.as_str(), place.node) == *its)
-}
-
-// Whether a file's `stop on` has these leaves, in byte order of events and as they are written.
-fn has_stops(
-    alloc: Global,
-    file: &JobFile,
-    ordered: &[(&str, u16)],
-    written: &[(&str, u16)],
-) -> Result<bool, Fail> {
-    let copy = file.job().copy(alloc)?;
-    let mut places = Vec::new(alloc);
-    let added = add_stops(&mut places, 1, &copy);
-    drop(copy);
-    added?;
-    Ok(are_places(file.stops(), ordered) && are_places(places.as_slice(), written))
+fn copies(alloc: Global, table: Table, image: &[u8]) -> Result<bool, Fail> {
+    let copied = is_copied(alloc, &table, image);
+    drop(table);
+    Ok(copied?)
 }
 
 #[test]
-fn a_file_has_the_leaves_of_its_stop_on(rt: HostRuntime) -> Result<(), Fail> {
-    let files = table_of(rt.alloc(), MANY)?.into_files(rt.alloc())?;
-    let Some(file) = files.as_slice().last() else {
-        return Err(Fail::from("there is no job"));
-    };
-    assert!(rt;
-        has_stops(
-            rt.alloc(),
-            file,
-            &[("a", 1), ("b", 0), ("c", 2)],
-            &[("b", 0), ("a", 1), ("c", 2)]
-        )?
-    );
-    Ok(())
-}
-
-// The events of jobs' leaves, in order.
-fn events(alloc: Global, files: &[JobFile], sorted: bool) -> Result<String, Fail> {
-    if files.len() > MAX_JOBS {
-        return Err(Fail::from("too many jobs"));
-    }
-    let mut places = places_of_files(alloc, files)?;
-    if sorted {
-        sort_places(&mut places)?;
-    }
-    let mut all = String::new(alloc);
-    for place in &places {
-        all.push_str(place.event.as_str())?;
-        all.push(' ')?;
-    }
-    Ok(all)
-}
-
-#[test]
-fn leaves_are_sorted_by_their_events(rt: HostRuntime) -> Result<(), Fail> {
-    let files = table_of(rt.alloc(), MANY)?.into_files(rt.alloc())?;
-    let written = events(rt.alloc(), files.as_slice(), false)?;
-    let sorted = events(rt.alloc(), files.as_slice(), true)?;
-    assert_eq!(rt; written.as_str(), "b runlevel stopped b a c a b c d and ");
-    assert_eq!(rt; sorted.as_str(), "a a and b b b c c d runlevel stopped ");
+fn files_have_their_leaves(rt: HostRuntime) -> Result<(), Fail> {
+    assert!(rt; gives_files(rt.alloc(), table_of(rt.alloc(), MANY)?)?);
     Ok(())
 }

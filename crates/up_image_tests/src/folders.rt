@@ -62,8 +62,8 @@ fn add_files(
     folder: &mut Folder,
     files: &[(&str, &[u8])],
 ) -> Result<(), AllocError> {
-    for (path, bytes) in files {
-        add_file(alloc, folder, path, bytes)?;
+    for file in files {
+        add_file(alloc, folder, file.0, file.1)?;
     }
     Ok(())
 }

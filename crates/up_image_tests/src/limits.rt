@@ -3,29 +3,47 @@ use crate::images::comes_back;
 use std::alloc::{AllocError, Global};
 use std::test::Fail;
 use up_conf::Folder;
-use up_image::{CompileError, Table, compile};
+use up_image::{CompileError, ImageError, compile};
 use up_text::{Items, Text};
 
 // In a static, since an array of so many in a function takes the prover long.
 static WORD: [u8; 10_000] = [b'x'; 10_000];
 
-// A command of one word, with 10,000 bytes for each ten thousand.
-fn command(alloc: Global, ten_thousands: u32) -> Result<Vec<u8>, AllocError> {
-    let mut text = Vec::from_slice(alloc, b"exec ")?;
-    for _ in 0..ten_thousands {
+fn push_command(text: &mut Vec<u8>) -> Result<(), AllocError> {
+    text.extend_from_slice(b"exec ")?;
+    for _ in 0..100u32 {
         text.extend_from_slice(&WORD)?;
     }
-    text.push(b'\n')?;
-    Ok(text)
+    text.extend_from_slice(b"\n")
+}
+
+// A command of one word of 1,000,000 bytes.
+fn command(alloc: Global) -> Result<Vec<u8>, AllocError> {
+    let mut text = Vec::new(alloc);
+    match push_command(&mut text) {
+        Ok(()) => Ok(text),
+        Err(refused) => {
+            drop(text);
+            Err(refused)
+        }
+    }
+}
+
+fn path_of(alloc: Global, number: u32) -> Result<String, AllocError> {
+    format!(in alloc; "{number}.conf")
 }
 
 fn add_large_job(alloc: Global, folder: &mut Folder, number: u32) -> Result<(), AllocError> {
-    let path = format!(in alloc; "{number}.conf")?;
-    let text = command(alloc, 100)?;
-    folder.add(Text::new(path), Items::new(text))
+    let text = command(alloc)?;
+    match path_of(alloc, number) {
+        Ok(path) => folder.add(Text::new(path), Items::new(text)),
+        Err(refused) => {
+            drop(text);
+            Err(refused)
+        }
+    }
 }
 
-// So many jobs, each with a command of 1,000,000 bytes.
 fn add_large_jobs(alloc: Global, folder: &mut Folder, jobs: u32) -> Result<(), AllocError> {
     for number in 0..jobs {
         add_large_job(alloc, folder, number)?;
@@ -33,44 +51,48 @@ fn add_large_jobs(alloc: Global, folder: &mut Folder, jobs: u32) -> Result<(), A
     Ok(())
 }
 
-// What becomes of a folder with so many.
-fn compile_large(alloc: Global, jobs: u32) -> Result<Table, CompileError> {
-    let mut folder = Folder::new(alloc);
-    let compiled = match add_large_jobs(alloc, &mut folder, jobs) {
-        Ok(()) => compile(alloc, &folder),
-        Err(_) => Err(CompileError::Memory),
-    };
-    drop(folder);
-    let (table, report) = compiled?;
+// Whether a folder of these jobs is compiled, and its table has a large image that is read; if not, why it isn't compiled.
+fn comes_of(alloc: Global, folder: &Folder) -> Result<Result<bool, ImageError>, CompileError> {
+    let (table, report) = compile(alloc, folder)?;
     drop(report);
-    Ok(table)
+    let image = table.to_bytes(alloc);
+    drop(table);
+    Ok(is_large(alloc, image))
 }
 
-fn is_too_large(alloc: Global, jobs: u32) -> bool {
-    match compile_large(alloc, jobs) {
-        Ok(table) => {
-            drop(table);
-            false
+fn is_large(alloc: Global, image: Result<Vec<u8>, ImageError>) -> Result<bool, ImageError> {
+    match image {
+        Ok(image) => {
+            let large = image.len() > 16_000_000;
+            let back = comes_back(alloc, image.as_slice());
+            drop(image);
+            Ok(large && back?)
         }
-        Err(error) => error == CompileError::ImageTooLarge,
+        Err(error) => Err(error),
     }
 }
 
-fn large_image(alloc: Global, jobs: u32) -> Result<Vec<u8>, Fail> {
-    let table = compile_large(alloc, jobs)?;
-    let image = table.to_bytes(alloc);
-    drop(table);
-    Ok(image?)
+// What comes of a folder with so many jobs, each with a command of 1,000,000 bytes.
+fn comes_of_large(alloc: Global, jobs: u32) -> Result<Result<bool, ImageError>, CompileError> {
+    let mut folder = Folder::new(alloc);
+    let came = match add_large_jobs(alloc, &mut folder, jobs) {
+        Ok(()) => comes_of(alloc, &folder),
+        Err(_) => Err(CompileError::Memory),
+    };
+    drop(folder);
+    came
 }
 
 #[test]
-fn a_table_too_large_for_an_image(rt: HostRuntime) {
-    assert!(rt; is_too_large(rt.alloc(), 17));
-}
-
-#[test]
-fn a_large_image_is_read(rt: HostRuntime) -> Result<(), Fail> {
-    let image = large_image(rt.alloc(), 16)?;
-    assert!(rt; image.len() > 16_000_000 && comes_back(rt.alloc(), image.as_slice())?);
+fn images_near_the_limit(rt: HostRuntime) -> Result<(), Fail> {
+    assert!(rt;
+        comes_of_large(rt.alloc(), 16)??,
+        "a large image isn't read"
+    );
+    let larger = comes_of_large(rt.alloc(), 17);
+    assert!(rt;
+        larger == Err(CompileError::ImageTooLarge),
+        "a table is too large for an image"
+    );
     Ok(())
 }

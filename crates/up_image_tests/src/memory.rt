@@ -9,7 +9,7 @@ use up_conf::{Fault, Folder, Report};
 use up_image::{CompileError, ImageError, Table, compile};
 
 // What came of a call.
-#[derive(Clone, Copy, Debug, PartialEq, Eq)]
+#[derive(Clone, Copy, PartialEq, Eq)]
 enum Came {
     Whole,
     Refused,
@@ -46,16 +46,20 @@ static FOLDERS: [Case; 5] = [
 ];
 
 fn is_fault(fault: &Fault, spot: &Spot) -> bool {
-    (fault.path.as_str(), fault.line, fault.code.number()) == *spot
+    fault.path.is(spot.0) && fault.line == spot.1 && fault.code.number() == spot.2
 }
 
 fn are_faults(report: &Report, spots: &[Spot]) -> bool {
     let faults = report.as_slice();
-    faults.len() == spots.len()
-        && faults
-            .iter()
-            .zip(spots)
-            .all(|(fault, spot)| is_fault(fault, spot))
+    if faults.len() != spots.len() {
+        return false;
+    }
+    for at in 0..spots.len() {
+        if !is_fault(&faults[at], &spots[at]) {
+            return false;
+        }
+    }
+    true
 }
 
 // What comes of a folder with these faults and so many jobs.
@@ -84,10 +88,16 @@ fn compiles_case(alloc: Global, case: &Case) -> Came {
     }
 }
 
+fn is_image(bytes: Vec<u8>, image: &[u8]) -> bool {
+    let is_image = bytes.as_slice() == image;
+    drop(bytes);
+    is_image
+}
+
 // What comes of the image of a table.
 fn writes(alloc: Global, table: &Table, image: &[u8]) -> Came {
     match table.to_bytes(alloc) {
-        Ok(bytes) => whole_if(bytes.as_slice() == image),
+        Ok(bytes) => whole_if(is_image(bytes, image)),
         Err(ImageError::Memory) => Came::Refused,
         Err(_) => Came::Otherwise,
     }
@@ -139,7 +149,11 @@ fn damaged(alloc: Global, len: usize, end: &[u8]) -> Result<Vec<u8>, AllocError>
 // What comes of a damaged image. If it couldn't be made nothing was tried.
 fn refuses_case(alloc: Global, case: &(usize, &[u8], ImageError)) -> Came {
     match damaged(alloc, case.0, case.1) {
-        Ok(bytes) => refuses(alloc, bytes.as_slice(), case.2),
+        Ok(bytes) => {
+            let came = refuses(alloc, bytes.as_slice(), case.2);
+            drop(bytes);
+            came
+        }
         Err(_) => Came::Refused,
     }
 }
@@ -147,7 +161,7 @@ fn refuses_case(alloc: Global, case: &(usize, &[u8], ImageError)) -> Came {
 // What comes of an image that is read and written again.
 fn comes_back(alloc: Global, image: &[u8]) -> Came {
     match again(alloc, image) {
-        Ok(bytes) => whole_if(bytes.as_slice() == image),
+        Ok(bytes) => whole_if(is_image(bytes, image)),
         Err(ImageError::Memory) => Came::Refused,
         Err(_) => Came::Otherwise,
     }
@@ -155,7 +169,11 @@ fn comes_back(alloc: Global, image: &[u8]) -> Came {
 
 fn comes_of_table(alloc: Global, table: &Table) -> Came {
     match table.to_bytes(alloc) {
-        Ok(image) => comes_back(alloc, image.as_slice()),
+        Ok(image) => {
+            let came = comes_back(alloc, image.as_slice());
+            drop(image);
+            came
+        }
         Err(ImageError::Memory) => Came::Refused,
         Err(_) => Came::Otherwise,
     }
@@ -187,7 +205,7 @@ fn comes_of_many(alloc: Global) -> Came {
 }
 
 // What came of all of them: whether each was whole, and whether one came otherwise.
-#[derive(Clone, Copy, Debug, PartialEq, Eq)]
+#[derive(Clone, Copy)]
 struct Sum {
     all_whole: bool,
     any_otherwise: bool,
@@ -200,48 +218,42 @@ impl Sum {
     }
 }
 
-fn nothing_yet() -> Sum {
-    Sum {
-        all_whole: true,
-        any_otherwise: false,
-    }
-}
-
-fn of_folders(alloc: Global) -> Sum {
-    let mut sum = nothing_yet();
-    for case in &FOLDERS {
+fn add_folders(alloc: Global, sum: &mut Sum, cases: &[Case]) {
+    for case in cases {
         sum.add(compiles_case(alloc, case));
     }
-    sum
 }
 
-fn of_images(alloc: Global) -> Sum {
-    let mut sum = nothing_yet();
-    for (image, written) in &IMAGES {
-        sum.add(reads(alloc, image, written));
+fn add_images(alloc: Global, sum: &mut Sum, images: &[(&[u8], &[u8])]) {
+    for image in images {
+        sum.add(reads(alloc, image.0, image.1));
     }
-    sum.add(comes_of_many(alloc));
-    sum
 }
 
-fn of_damaged(alloc: Global) -> Sum {
-    let mut sum = nothing_yet();
-    for case in &DAMAGED {
+fn add_damaged(alloc: Global, sum: &mut Sum, cases: &[(usize, &[u8], ImageError)]) {
+    for case in cases {
         sum.add(refuses_case(alloc, case));
     }
+}
+
+fn sum_of_all(alloc: Global) -> Sum {
+    let mut sum = Sum {
+        all_whole: true,
+        any_otherwise: false,
+    };
+    add_folders(alloc, &mut sum, &FOLDERS);
+    add_images(alloc, &mut sum, &IMAGES);
+    sum.add(comes_of_many(alloc));
+    add_damaged(alloc, &mut sum, &DAMAGED);
     sum
 }
 
 #[test]
 fn always_memory(rt: HostRuntime) {
-    assert!(rt; of_folders(rt.alloc()).all_whole, "of folders");
-    assert!(rt; of_images(rt.alloc()).all_whole, "of images");
-    assert!(rt; of_damaged(rt.alloc()).all_whole, "of damaged images");
+    assert!(rt; sum_of_all(rt.alloc()).all_whole);
 }
 
 #[test]
 fn memory_refused(rt: HostRuntime) {
-    assert!(rt; !of_folders(rt.alloc()).any_otherwise, "of folders");
-    assert!(rt; !of_images(rt.alloc()).any_otherwise, "of images");
-    assert!(rt; !of_damaged(rt.alloc()).any_otherwise, "of damaged images");
+    assert!(rt; !sum_of_all(rt.alloc()).any_otherwise);
 }

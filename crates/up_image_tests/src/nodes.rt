@@ -1,6 +1,5 @@
 //! Expressions as nodes.
 use crate::folders::table_of;
-use std::alloc::Global;
 use std::test::Fail;
 use up_expr::{Node, Nodes};
 use up_image::Table;
@@ -10,43 +9,62 @@ const FILES: &'static [(&'static str, &'static [u8])] = &[(
     b"start on (A and B) or (C and D)\nexec x\n",
 )];
 
-// What a node says: an event's name, or an operator and its sides.
-fn says(alloc: Global, node: &Node) -> Result<String, Fail> {
-    match node {
-        Node::Leaf(leaf) => Ok(String::from_str(alloc, leaf.event.as_str())?),
-        Node::And(left, right) => Ok(format!(in alloc; "and {left} {right}")?),
-        Node::Or(left, right) => Ok(format!(in alloc; "or {left} {right}")?),
+// What a node says: an event's name, or an operator and the places of its sides.
+enum Said {
+    Leaf(&'static str),
+    And(u16, u16),
+    Or(u16, u16),
+}
+
+const SAID: &'static [Said] = &[
+    Said::Leaf("A"),
+    Said::Leaf("B"),
+    Said::And(0, 1),
+    Said::Leaf("C"),
+    Said::Leaf("D"),
+    Said::And(3, 4),
+    Said::Or(2, 5),
+];
+
+fn says(node: &Node, said: &Said) -> bool {
+    match (node, said) {
+        (Node::Leaf(leaf), Said::Leaf(event)) => leaf.event.as_str() == *event,
+        (Node::And(left, right), Said::And(first, second)) => left == first && right == second,
+        (Node::Or(left, right), Said::Or(first, second)) => left == first && right == second,
+        _ => false,
     }
 }
 
-const SAID: &'static [&'static str] = &["A", "B", "and 0 1", "C", "D", "and 3 4", "or 2 5"];
-
 // Whether nodes say this, one after another.
-fn say(alloc: Global, nodes: &Nodes, said: &[&str]) -> Result<bool, Fail> {
-    for (node, words) in nodes.as_slice().iter().zip(said) {
-        if says(alloc, node)?.as_str() != *words {
-            return Ok(false);
+fn say(nodes: &Nodes, said: &[Said]) -> bool {
+    let all = nodes.as_slice();
+    if all.len() != said.len() {
+        return false;
+    }
+    for at in 0..said.len() {
+        if !says(&all[at], &said[at]) {
+            return false;
         }
     }
-    Ok(nodes.len() == said.len())
+    true
 }
 
 // Whether there is one job, with a condition whose nodes say this.
-fn starts_on(alloc: Global, table: &Table, said: &[&str]) -> Result<bool, Fail> {
+fn starts_on(table: &Table, said: &[Said]) -> bool {
     if table.len() != 1 {
-        return Ok(false);
+        return false;
     }
     match &table.job(0).start_on {
-        Some(condition) => say(alloc, condition.nodes(), said),
-        None => Ok(false),
+        Some(condition) => say(condition.nodes(), said),
+        None => false,
     }
 }
 
 #[test]
 fn nodes_stand_in_post_order(rt: HostRuntime) -> Result<(), Fail> {
     let table = table_of(rt.alloc(), FILES)?;
-    let starts = starts_on(rt.alloc(), &table, SAID);
+    let starts = starts_on(&table, SAID);
     drop(table);
-    assert!(rt; starts?);
+    assert!(rt; starts);
     Ok(())
 }

@@ -13,7 +13,7 @@ fn next(number: u32) -> u32 {
 }
 
 /// What became of an image.
-#[derive(Clone, Copy, Debug, PartialEq, Eq)]
+#[derive(Clone, Copy, PartialEq, Eq)]
 enum Outcome {
     Refused,
     Read,
@@ -23,7 +23,9 @@ enum Outcome {
 fn reading_of(alloc: Global, image: &[u8]) -> Outcome {
     match again(alloc, image) {
         Ok(bytes) => {
-            if bytes.as_slice() == image {
+            let is_read = bytes.as_slice() == image;
+            drop(bytes);
+            if is_read {
                 Outcome::Read
             } else {
                 Outcome::ReadAsAnother
@@ -68,6 +70,8 @@ fn is_mixed(alloc: Global, image: &mut [u8]) -> bool {
 #[test]
 fn a_walk_over_damaged_images(rt: HostRuntime) -> Result<(), Fail> {
     let mut image = image_of(rt.alloc(), DISTRIBUTION)?;
-    assert!(rt; is_mixed(rt.alloc(), image.as_mut_slice()));
+    let mixed = is_mixed(rt.alloc(), image.as_mut_slice());
+    drop(image);
+    assert!(rt; mixed);
     Ok(())
 }

@@ -1,10 +1,10 @@
 //! Feeds of which a request for memory may be refused: each piece gives what it gives with ample memory, or the feed takes nothing of it.
 //!
 //! `rt try --test --fail-alloc N -- memory` refuses the Nth request; `bench/faults` goes through all of them with the built tests.
-use crate::frames::{START, STATUS};
+use crate::frames::{START, STATUS, count};
 use std::alloc::Global;
 use std::test::Fail;
-use up_model::{Answer, Request};
+use up_model::Answer;
 use up_wire::{AnswerFeed, Feed, WireFault};
 
 // A piece, and how many frames are whole with it.
@@ -44,7 +44,7 @@ static FAULTS: [(&[u8], WireFault); 2] = [
 ];
 
 // Whether all went as with ample memory, and whether something else came than that or the refusal.
-#[derive(Clone, Copy, Debug, PartialEq, Eq)]
+#[derive(Clone, Copy, PartialEq, Eq)]
 enum Came {
     Whole,
     Refused,
@@ -60,19 +60,23 @@ fn came_of(count: Result<usize, WireFault>, wanted: usize) -> Came {
 }
 
 fn feed_requests(feed: &mut Feed, bytes: &[u8]) -> Result<usize, WireFault> {
-    let requests: Vec<Request> = feed.feed(bytes)?;
-    Ok(requests.len())
+    Ok(count(feed.feed(bytes)?))
+}
+
+fn count_of(answers: Vec<Answer>) -> usize {
+    let count = answers.len();
+    drop(answers);
+    count
 }
 
 fn feed_answers(feed: &mut AnswerFeed, bytes: &[u8]) -> Result<usize, WireFault> {
-    let answers: Vec<Answer> = feed.feed(bytes)?;
-    Ok(answers.len())
+    Ok(count_of(feed.feed(bytes)?))
 }
 
 // What comes of a piece. One that was refused memory is fed once more, and gives then what it would have given at first.
-fn of_requests(feed: &mut Feed, (bytes, wanted): Piece) -> Came {
-    match came_of(feed_requests(feed, bytes), wanted) {
-        Came::Refused => match came_of(feed_requests(feed, bytes), wanted) {
+fn of_requests(feed: &mut Feed, piece: &Piece) -> Came {
+    match came_of(feed_requests(feed, piece.0), piece.1) {
+        Came::Refused => match came_of(feed_requests(feed, piece.0), piece.1) {
             Came::Whole => Came::Refused,
             _ => Came::Otherwise,
         },
@@ -80,9 +84,9 @@ fn of_requests(feed: &mut Feed, (bytes, wanted): Piece) -> Came {
     }
 }
 
-fn of_answers(feed: &mut AnswerFeed, (bytes, wanted): Piece) -> Came {
-    match came_of(feed_answers(feed, bytes), wanted) {
-        Came::Refused => match came_of(feed_answers(feed, bytes), wanted) {
+fn of_answers(feed: &mut AnswerFeed, piece: &Piece) -> Came {
+    match came_of(feed_answers(feed, piece.0), piece.1) {
+        Came::Refused => match came_of(feed_answers(feed, piece.0), piece.1) {
             Came::Whole => Came::Refused,
             _ => Came::Otherwise,
         },
@@ -90,35 +94,44 @@ fn of_answers(feed: &mut AnswerFeed, (bytes, wanted): Piece) -> Came {
     }
 }
 
-// How many pieces came as with ample memory, and how many otherwise.
-type Counts = (usize, usize);
+// Whether all pieces came whole, and whether one came otherwise than whole or refused.
+#[derive(Clone, Copy)]
+struct Sum {
+    all_whole: bool,
+    any_otherwise: bool,
+}
 
-fn add(counts: Counts, came: Came) -> Counts {
-    match came {
-        Came::Whole => (counts.0.saturating_add(1), counts.1),
-        Came::Refused => counts,
-        Came::Otherwise => (counts.0, counts.1.saturating_add(1)),
+impl Sum {
+    fn add(&mut self, came: Came) {
+        self.all_whole = self.all_whole && came == Came::Whole;
+        self.any_otherwise = self.any_otherwise || came == Came::Otherwise;
     }
 }
 
-fn count_requests(alloc: Global) -> Counts {
+fn add_requests(feed: &mut Feed, sum: &mut Sum, pieces: &[Piece]) {
+    for piece in pieces {
+        sum.add(of_requests(feed, piece));
+    }
+}
+
+fn add_answers(feed: &mut AnswerFeed, sum: &mut Sum, pieces: &[Piece]) {
+    for piece in pieces {
+        sum.add(of_answers(feed, piece));
+    }
+}
+
+fn sum_of_all(alloc: Global) -> Sum {
+    let mut sum = Sum {
+        all_whole: true,
+        any_otherwise: false,
+    };
     let mut feed = Feed::new(alloc);
-    let mut counts: Counts = (0, 0);
-    for piece in &REQUESTS {
-        counts = add(counts, of_requests(&mut feed, *piece));
-    }
+    add_requests(&mut feed, &mut sum, &REQUESTS);
     drop(feed);
-    counts
-}
-
-fn count_answers(alloc: Global) -> Counts {
-    let mut feed = AnswerFeed::new(alloc);
-    let mut counts: Counts = (0, 0);
-    for piece in &ANSWERS {
-        counts = add(counts, of_answers(&mut feed, *piece));
-    }
-    drop(feed);
-    counts
+    let mut answers = AnswerFeed::new(alloc);
+    add_answers(&mut answers, &mut sum, &ANSWERS);
+    drop(answers);
+    sum
 }
 
 // A faulty frame is refused so, and so is what follows, whether memory was refused at first or not.
@@ -132,19 +145,22 @@ fn is_faulty(alloc: Global, bytes: &[u8], fault: WireFault) -> bool {
     is_first && second == Err(fault) && third == Err(fault)
 }
 
-#[test]
-fn always_memory(rt: HostRuntime) -> Result<(), Fail> {
-    assert_eq!(rt; count_requests(rt.alloc()), (REQUESTS.len(), 0));
-    assert_eq!(rt; count_answers(rt.alloc()), (ANSWERS.len(), 0));
+fn check_faults(alloc: Global, faults: &[(&[u8], WireFault)]) -> Result<(), Fail> {
+    for fault in faults {
+        if !is_faulty(alloc, fault.0, fault.1) {
+            return Err(Fail::from(fault.1));
+        }
+    }
     Ok(())
 }
 
 #[test]
+fn always_memory(rt: HostRuntime) {
+    assert!(rt; sum_of_all(rt.alloc()).all_whole);
+}
+
+#[test]
 fn memory_refused(rt: HostRuntime) -> Result<(), Fail> {
-    assert_eq!(rt; count_requests(rt.alloc()).1, 0);
-    assert_eq!(rt; count_answers(rt.alloc()).1, 0);
-    for (bytes, fault) in &FAULTS {
-        assert!(rt; is_faulty(rt.alloc(), bytes, *fault), "{fault:?}");
-    }
-    Ok(())
+    assert!(rt; !sum_of_all(rt.alloc()).any_otherwise);
+    check_faults(rt.alloc(), &FAULTS)
 }

@@ -1,7 +1,6 @@
 //! The client against peers: shells at the other end of a socket, and a stream that never has an answer.
-use crate::cases::same;
 use crate::frames::START;
-use std::alloc::Global;
+use std::alloc::{AllocError, Global};
 use std::io;
 use std::io::{Read, Write};
 use std::os::fd::OwnedFd;
@@ -68,44 +67,87 @@ const PEERS: &'static [Peer] = &[
     },
 ];
 
-// Starts a shell whose input and output are the other end, and returns ours. It reads the request first: a peer that ends before the
-// client has written is one that can't be written to.
-fn peer_of(rt: &HostRuntime, line: &str) -> Result<UnixStream, Fail> {
-    let line = format!(in rt.alloc(); "head -c 11 >/dev/null; {line}")?;
-    let (ours, theirs) = UnixStream::pair(rt)?;
-    let input = theirs.try_clone()?;
-    let mut command = Command::new(rt.alloc(), "/bin/sh")?;
-    command.arg("-c")?;
-    command.arg(line.as_str())?;
-    command.stdin(OwnedFd::from(input));
-    command.stdout(OwnedFd::from(theirs));
-    let _child = command.spawn(rt)?;
-    Ok(ours)
+fn line_of(alloc: Global, line: &str) -> Result<String, AllocError> {
+    format!(in alloc; "head -c 11 >/dev/null; {line}")
 }
 
-fn is_expected(
-    answer: &Result<Answer, TalkFault>,
-    expected: &Result<(bool, &'static str), TalkFault>,
-) -> bool {
-    match (answer, expected) {
-        (Ok(answer), Ok((ok, text))) => answer.ok == *ok && answer.text.is(text),
-        (Err(fault), Err(other)) => fault == other,
-        _ => false,
+// Starts a shell whose input and output are a stream. It reads the request first: a peer that ends before the client has written is one that
+// can't be written to. Large values are moved on or dropped by a call, here and below: the prover would go through each field of what a
+// scope drops.
+fn start(
+    rt: &HostRuntime,
+    command: &mut Command<Global>,
+    line: &str,
+    theirs: UnixStream,
+) -> Result<(), Fail> {
+    command.arg("-c")?;
+    command.arg(line)?;
+    command.stdin(OwnedFd::from(theirs.try_clone()?));
+    command.stdout(OwnedFd::from(theirs));
+    let _child = command.spawn(rt)?;
+    Ok(())
+}
+
+fn start_shell(rt: &HostRuntime, line: &str, theirs: UnixStream) -> Result<(), Fail> {
+    let mut command = Command::new(rt.alloc(), "/bin/sh")?;
+    let started = start(rt, &mut command, line, theirs);
+    drop(command);
+    started
+}
+
+// A stream whose other end a shell reads and writes.
+fn peer_of(rt: &HostRuntime, line: &str) -> Result<UnixStream, Fail> {
+    let (ours, theirs) = UnixStream::pair(rt)?;
+    match start_shell(rt, line, theirs) {
+        Ok(()) => Ok(ours),
+        Err(fail) => {
+            drop(ours);
+            Err(fail)
+        }
     }
 }
 
-fn try_peer(rt: &HostRuntime, peer: &Peer) -> Result<(), Fail> {
-    let mut stream = peer_of(rt, peer.line)?;
+fn is_expected(
+    answer: Result<Answer, TalkFault>,
+    expected: &Result<(bool, &'static str), TalkFault>,
+) -> bool {
+    let is_expected = match (&answer, expected) {
+        (Ok(answer), Ok((ok, text))) => answer.ok == *ok && answer.text.is(text),
+        (Err(fault), Err(other)) => fault == other,
+        _ => false,
+    };
+    drop(answer);
+    is_expected
+}
+
+fn answers(rt: &HostRuntime, line: &str, peer: &Peer) -> Result<bool, Fail> {
+    let mut stream = peer_of(rt, line)?;
     let answer = talk(rt.alloc(), &mut stream, START);
-    same(peer.name, is_expected(&answer, &peer.answer), true)
+    drop(stream);
+    Ok(is_expected(answer, &peer.answer))
+}
+
+fn try_peer(rt: &HostRuntime, peer: &Peer) -> Result<(), Fail> {
+    let line = line_of(rt.alloc(), peer.line)?;
+    let answered = answers(rt, line.as_str(), peer);
+    drop(line);
+    if answered? {
+        Ok(())
+    } else {
+        Err(Fail::from(peer.name))
+    }
+}
+
+fn try_peers(rt: &HostRuntime, peers: &[Peer]) -> Result<(), Fail> {
+    for peer in peers {
+        try_peer(rt, peer)?;
+    }
+    Ok(())
 }
 
 #[test]
 fn peers_are_heard_or_lost(rt: HostRuntime) -> Result<(), Fail> {
-    for peer in PEERS {
-        try_peer(&rt, peer)?;
-    }
-    Ok(())
+    try_peers(&rt, PEERS)
 }
 
 // A peer that takes what is written and never has an answer.
@@ -135,7 +177,7 @@ impl Write for Silent {
 fn a_peer_that_never_answers_is_given_up(rt: HostRuntime) -> Result<(), Fail> {
     let mut silent = Silent { reads: 0 };
     let answer = talk(rt.alloc(), &mut silent, START);
-    assert!(rt; silent.reads == MAX_READS && is_expected(&answer, &Err(TalkFault::Lost)));
+    assert!(rt; is_expected(answer, &Err(TalkFault::Lost)) && silent.reads == MAX_READS);
     Ok(())
 }
 
@@ -194,23 +236,32 @@ const LINES: &'static [Line] = &[
     },
 ];
 
-fn strings(alloc: Global, words: &[&str]) -> Result<Vec<String>, Fail> {
-    let mut all = Vec::new(alloc);
+fn push_strings(alloc: Global, words: &[&str], all: &mut Vec<String>) -> Result<(), AllocError> {
     for word in words {
-        all.push(String::from_str(alloc, word)?)?;
+        all.push(String::from_str(alloc, *word)?)?;
     }
-    Ok(all)
+    Ok(())
+}
+
+fn ends_so(rt: &HostRuntime, line: &Line) -> Result<bool, AllocError> {
+    let mut words = Vec::new(rt.alloc());
+    let pushed = push_strings(rt.alloc(), line.words, &mut words);
+    let status = run(rt, &words).number();
+    drop(words);
+    pushed?;
+    Ok(status == line.status)
+}
+
+fn check_lines(rt: &HostRuntime, lines: &[Line]) -> Result<(), Fail> {
+    for (place, line) in lines.iter().enumerate() {
+        if !ends_so(rt, line)? {
+            return Err(Fail::from(place));
+        }
+    }
+    Ok(())
 }
 
 #[test]
 fn lines_that_reach_no_peer_end_by_their_status(rt: HostRuntime) -> Result<(), Fail> {
-    for line in LINES {
-        let words = strings(rt.alloc(), line.words)?;
-        same(
-            "a line",
-            (line.words.len(), run(&rt, &words).number()),
-            (line.words.len(), line.status),
-        )?;
-    }
-    Ok(())
+    check_lines(&rt, LINES)
 }

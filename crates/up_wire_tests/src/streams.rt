@@ -1,9 +1,9 @@
 //! Streams that are cut, and frames of which a byte is altered.
-use crate::cases::same;
 use crate::frames::{START, STATUS};
-use std::alloc::Global;
+use std::alloc::{AllocError, Global};
 use std::test::Fail;
 use up_model::{Answer, Request};
+use up_text::Text;
 use up_wire::{AnswerFeed, Feed, WireFault, write_answer, write_request};
 
 /// Ten frames, of each command and of variables.
@@ -31,12 +31,11 @@ const FRAMES: &'static [&'static [u8]] = &[
     ],
 ];
 
-fn joined(alloc: Global, frames: &[&[u8]]) -> Result<Vec<u8>, WireFault> {
-    let mut bytes = Vec::new(alloc);
+fn join(bytes: &mut Vec<u8>, frames: &[&[u8]]) -> Result<(), AllocError> {
     for frame in frames {
-        bytes.extend_from_slice(frame)?;
+        bytes.extend_from_slice(*frame)?;
     }
-    Ok(bytes)
+    Ok(())
 }
 
 // Appends the frames of requests.
@@ -54,92 +53,157 @@ fn rewrite_answers(answers: &[Answer], out: &mut Vec<u8>) -> Result<(), WireFaul
     Ok(())
 }
 
-// The frames of the requests of two pieces.
-fn read_in_two(alloc: Global, first: &[u8], second: &[u8]) -> Result<Vec<u8>, WireFault> {
-    let mut feed = Feed::new(alloc);
-    let mut out = Vec::new(alloc);
-    rewrite(&feed.feed(first)?, &mut out)?;
-    rewrite(&feed.feed(second)?, &mut out)?;
-    Ok(out)
+// Appends the frames of the requests that are whole with these bytes. Large values are dropped by a call, here and below: the prover would
+// go through each field of what a scope drops.
+fn feed(feed: &mut Feed, bytes: &[u8], out: &mut Vec<u8>) -> Result<(), WireFault> {
+    let requests = feed.feed(bytes)?;
+    let written = rewrite(requests.as_slice(), out);
+    drop(requests);
+    written
 }
 
-// The first place at which a cut changes the requests.
-fn bad_cut(alloc: Global, stream: &[u8]) -> Result<Option<usize>, WireFault> {
+fn feed_answers(feed: &mut AnswerFeed, bytes: &[u8], out: &mut Vec<u8>) -> Result<(), WireFault> {
+    let answers = feed.feed(bytes)?;
+    let written = rewrite_answers(answers.as_slice(), out);
+    drop(answers);
+    written
+}
+
+// The frames of the requests of two pieces.
+fn feed_two(
+    alloc: Global,
+    first: &[u8],
+    second: &[u8],
+    out: &mut Vec<u8>,
+) -> Result<(), WireFault> {
+    let mut its = Feed::new(alloc);
+    let fed = match feed(&mut its, first, out) {
+        Ok(()) => feed(&mut its, second, out),
+        Err(fault) => Err(fault),
+    };
+    drop(its);
+    fed
+}
+
+// Whether a cut leaves the requests.
+fn is_left(alloc: Global, stream: &[u8], cut: usize, out: &mut Vec<u8>) -> Result<bool, WireFault> {
+    let Some((first, second)) = stream.split_at_checked(cut) else {
+        return Ok(false);
+    };
+    out.clear();
+    feed_two(alloc, first, second, out)?;
+    Ok(out.as_slice() == stream)
+}
+
+fn check_cuts(alloc: Global, stream: &[u8], out: &mut Vec<u8>) -> Result<(), Fail> {
     for cut in 0..=stream.len() {
-        let Some((first, second)) = stream.split_at_checked(cut) else {
-            return Ok(Some(cut));
-        };
-        if read_in_two(alloc, first, second)?.as_slice() != stream {
-            return Ok(Some(cut));
+        if !is_left(alloc, stream, cut, out)? {
+            return Err(Fail::from(cut));
         }
     }
-    Ok(None)
+    Ok(())
+}
+
+fn check_stream(alloc: Global, stream: &mut Vec<u8>, out: &mut Vec<u8>) -> Result<(), Fail> {
+    join(stream, FRAMES)?;
+    if stream.len() != 126 {
+        return Err(Fail::from("the frames have not 126 bytes"));
+    }
+    check_cuts(alloc, stream.as_slice(), out)
 }
 
 #[test]
 fn every_cut_of_ten_frames_leaves_the_requests(rt: HostRuntime) -> Result<(), Fail> {
-    let stream = joined(rt.alloc(), FRAMES)?;
-    assert!(rt; stream.len() == 126 && bad_cut(rt.alloc(), &stream)? == None);
+    let mut stream = Vec::new(rt.alloc());
+    let mut out = Vec::new(rt.alloc());
+    let checked = check_stream(rt.alloc(), &mut stream, &mut out);
+    drop(stream);
+    drop(out);
+    checked
+}
+
+// Whether the bytes were refused as frames, or are the frames of what was read and a rest.
+fn is_sound(fed: Result<(), WireFault>, bytes: &[u8], out: &[u8]) -> bool {
+    match fed {
+        Ok(()) => bytes.starts_with(out),
+        Err(fault) => fault == WireFault::FrameTooLarge || fault == WireFault::BadFrame,
+    }
+}
+
+fn feed_once(alloc: Global, bytes: &[u8], out: &mut Vec<u8>) -> Result<(), WireFault> {
+    let mut its = Feed::new(alloc);
+    let fed = feed(&mut its, bytes, out);
+    drop(its);
+    fed
+}
+
+fn feed_answers_once(alloc: Global, bytes: &[u8], out: &mut Vec<u8>) -> Result<(), WireFault> {
+    let mut its = AnswerFeed::new(alloc);
+    let fed = feed_answers(&mut its, bytes, out);
+    drop(its);
+    fed
+}
+
+fn reads_soundly(alloc: Global, bytes: &[u8], answers: bool, out: &mut Vec<u8>) -> bool {
+    out.clear();
+    let fed = if answers {
+        feed_answers_once(alloc, bytes, out)
+    } else {
+        feed_once(alloc, bytes, out)
+    };
+    is_sound(fed, bytes, out.as_slice())
+}
+
+// Whether each byte at a place of a frame is refused or read as it stands.
+fn is_altered(
+    alloc: Global,
+    frame: &mut [u8],
+    place: usize,
+    answers: bool,
+    out: &mut Vec<u8>,
+) -> bool {
+    if place >= frame.len() {
+        return false;
+    }
+    let kept = frame[place];
+    for value in 0..=255u8 {
+        frame[place] = value;
+        if !reads_soundly(alloc, frame, answers, out) {
+            return false;
+        }
+    }
+    frame[place] = kept;
+    true
+}
+
+// Fails with the first place at which a byte isn't.
+fn check_bytes(
+    alloc: Global,
+    frame: &mut [u8],
+    answers: bool,
+    out: &mut Vec<u8>,
+) -> Result<(), Fail> {
+    for place in 0..frame.len() {
+        if !is_altered(alloc, frame, place, answers, out) {
+            return Err(Fail::from(place));
+        }
+    }
     Ok(())
 }
 
-// Whether the bytes are refused as frames, or are the frames of what is read and a rest.
-fn is_sound(alloc: Global, bytes: &[u8]) -> Result<bool, WireFault> {
-    let mut feed = Feed::new(alloc);
-    match feed.feed(bytes) {
-        Ok(requests) => {
-            let mut out = Vec::new(alloc);
-            rewrite(&requests, &mut out)?;
-            Ok(bytes.starts_with(&out))
-        }
-        Err(fault) => Ok(fault == WireFault::FrameTooLarge || fault == WireFault::BadFrame),
-    }
-}
-
-// The same of answers.
-fn is_sound_answer(alloc: Global, bytes: &[u8]) -> Result<bool, WireFault> {
-    let mut feed = AnswerFeed::new(alloc);
-    match feed.feed(bytes) {
-        Ok(answers) => {
-            let mut out = Vec::new(alloc);
-            rewrite_answers(&answers, &mut out)?;
-            Ok(bytes.starts_with(&out))
-        }
-        Err(fault) => Ok(fault == WireFault::FrameTooLarge || fault == WireFault::BadFrame),
-    }
-}
-
-// A frame of which one byte is another.
-fn altered(alloc: Global, frame: &[u8], place: usize, value: u8) -> Result<Vec<u8>, WireFault> {
-    let mut bytes = Vec::from_slice(alloc, frame)?;
-    if let Some(byte) = bytes.get_mut(place) {
-        *byte = value;
-    }
-    Ok(bytes)
-}
-
-// The first place and value that aren't sound.
-fn bad_byte(alloc: Global, frame: &[u8], answers: bool) -> Result<Option<(usize, u8)>, WireFault> {
-    for place in 0..frame.len() {
-        for value in 0..=255u8 {
-            let bytes = altered(alloc, frame, place, value)?;
-            let sound = if answers {
-                is_sound_answer(alloc, &bytes)?
-            } else {
-                is_sound(alloc, &bytes)?
-            };
-            if !sound {
-                return Ok(Some((place, value)));
-            }
-        }
-    }
-    Ok(None)
+fn check_frame(alloc: Global, frame: &[u8], answers: bool) -> Result<(), Fail> {
+    let mut frame = Vec::from_slice(alloc, frame)?;
+    let mut out = Vec::new(alloc);
+    let checked = check_bytes(alloc, frame.as_mut_slice(), answers, &mut out);
+    drop(frame);
+    drop(out);
+    checked
 }
 
 #[test]
 fn an_altered_byte_is_refused_or_read_as_it_stands(rt: HostRuntime) -> Result<(), Fail> {
-    same("a request", bad_byte(rt.alloc(), START, false)?, None)?;
-    same("an answer", bad_byte(rt.alloc(), STATUS, true)?, None)
+    check_frame(rt.alloc(), START, false)?;
+    check_frame(rt.alloc(), STATUS, true)
 }
 
 // A text of two full frames and three bytes more.
@@ -148,38 +212,74 @@ fn long_answer(alloc: Global) -> Result<Answer, WireFault> {
     match String::from_utf8(bytes) {
         Ok(text) => Ok(Answer {
             ok: true,
-            text: up_text::Text::new(text),
+            text: Text::new(text),
         }),
         Err(_) => Err(WireFault::BadFrame),
     }
 }
 
-// The frames of the answers of pieces of so many bytes.
-fn read_in_pieces(alloc: Global, bytes: &[u8], size: usize) -> Result<Vec<u8>, WireFault> {
-    let mut feed = AnswerFeed::new(alloc);
-    let mut out = Vec::new(alloc);
+fn write_long(alloc: Global, bytes: &mut Vec<u8>) -> Result<(), WireFault> {
+    let answer = long_answer(alloc)?;
+    let written = write_answer(&answer, bytes);
+    drop(answer);
+    written?;
+    Ok(bytes.extend_from_slice(STATUS)?)
+}
+
+// Appends the frames of the answers of pieces of so many bytes.
+fn feed_pieces(
+    its: &mut AnswerFeed,
+    bytes: &[u8],
+    size: usize,
+    out: &mut Vec<u8>,
+) -> Result<(), WireFault> {
     let mut rest = bytes;
     for _ in 0..bytes.len() {
         if rest.is_empty() {
-            return Ok(out);
+            return Ok(());
         }
         let (piece, after) = match rest.split_at_checked(size) {
             Some(parts) => parts,
             None => (rest, &rest[..0]),
         };
-        rewrite_answers(&feed.feed(piece)?, &mut out)?;
+        feed_answers(its, piece, out)?;
         rest = after;
     }
-    Ok(out)
+    Ok(())
+}
+
+fn is_same_in_pieces(
+    alloc: Global,
+    bytes: &[u8],
+    size: usize,
+    out: &mut Vec<u8>,
+) -> Result<bool, WireFault> {
+    out.clear();
+    let mut its = AnswerFeed::new(alloc);
+    let fed = feed_pieces(&mut its, bytes, size, out);
+    drop(its);
+    fed?;
+    Ok(out.as_slice() == bytes)
+}
+
+fn is_long_the_same(
+    alloc: Global,
+    bytes: &mut Vec<u8>,
+    out: &mut Vec<u8>,
+) -> Result<bool, WireFault> {
+    write_long(alloc, bytes)?;
+    let whole = is_same_in_pieces(alloc, bytes.as_slice(), 1_000_000, out)?;
+    let pieces = is_same_in_pieces(alloc, bytes.as_slice(), 4_096, out)?;
+    Ok(whole && pieces && bytes.len() == 131_107)
 }
 
 #[test]
 fn a_long_answer_is_the_same_in_pieces(rt: HostRuntime) -> Result<(), Fail> {
     let mut bytes = Vec::new(rt.alloc());
-    write_answer(&long_answer(rt.alloc())?, &mut bytes)?;
-    bytes.extend_from_slice(STATUS)?;
-    let whole = read_in_pieces(rt.alloc(), &bytes, 1_000_000)?;
-    let pieces = read_in_pieces(rt.alloc(), &bytes, 4_096)?;
-    assert!(rt; bytes.len() == 131_107 && whole == bytes && pieces == bytes);
+    let mut out = Vec::new(rt.alloc());
+    let same = is_long_the_same(rt.alloc(), &mut bytes, &mut out);
+    drop(bytes);
+    drop(out);
+    assert!(rt; same?);
     Ok(())
 }
