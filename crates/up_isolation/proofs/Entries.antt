@@ -21,7 +21,7 @@ use Rattle.up_model.specs.Values.{Bytes, Bindings}
 use Rattle.up_model.proofs.NameLaws.{called}
 use Rattle.up_isolation.specs.Views.{owns}
 use Rattle.up_isolation.specs.Parts as parts
-use Rattle.up_isolation.specs.Parts.{Content, contents, content, Item, items, items_if}
+use Rattle.up_isolation.specs.Parts.{contents, items}
 use Rattle.up_isolation.specs.Parts.{name_at}
 use Rattle.up_isolation.proofs.Lives.{Life, life}
 use Rattle.up_isolation.proofs.Lives as lives

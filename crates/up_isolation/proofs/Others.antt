@@ -16,9 +16,9 @@ use Rattle.up_model.proofs.Places.{bytes_refl}
 use Rattle.up_model.proofs.NameLaws.{entered-singles}
 use Rattle.up_isolation.specs.Views.{owns}
 use Rattle.up_isolation.specs.Parts as parts
-use Rattle.up_isolation.specs.Parts.{Content, contents, content, Item, items, items_if, hears_event}
+use Rattle.up_isolation.specs.Parts.{contents, content, Item, items, items_if, hears_event}
 use Rattle.up_isolation.specs.Parts.{name_at}
-use Rattle.up_isolation.proofs.Lives.{Life, life}
+use Rattle.up_isolation.proofs.Lives.{Life}
 use Rattle.up_isolation.proofs.Lives as lives
 use Rattle.up_isolation.proofs.Sights.{told}
 use Rattle.up_isolation.proofs.Twins.{Twins, Match}

@@ -20,9 +20,9 @@ use Rattle.up_model.proofs.Places.{bytes_refl, older-other}
 use Rattle.up_model.proofs.NameLaws.{called, Singles, entered-singles}
 use Rattle.up_isolation.specs.Views.{notices, is_of, owns, outputs_if, deeds_by, deeds}
 use Rattle.up_isolation.specs.Parts as parts
-use Rattle.up_isolation.specs.Parts.{Content, contents, content, Item, items, items_if}
-use Rattle.up_isolation.specs.Parts.{owns_expression, noticed, name_at}
-use Rattle.up_isolation.proofs.Lives.{Life, life, IsAside, aside, IsOld}
+use Rattle.up_isolation.specs.Parts.{contents, Item, items, items_if}
+use Rattle.up_isolation.specs.Parts.{noticed, name_at}
+use Rattle.up_isolation.proofs.Lives.{life, IsAside, aside}
 use Rattle.up_isolation.proofs.Lives as lives
 use Rattle.up_isolation.proofs.Sights.{told}
 use Rattle.up_isolation.proofs.Twins.{Twins, Match}

@@ -13,7 +13,7 @@ use Rattle.up_model.specs.Readings.{entry_at, event_at, holders}
 use Rattle.up_model.specs.Values.{Bytes}
 use Rattle.up_model.proofs.NameLaws.{called}
 use Rattle.up_isolation.specs.Views.{deeds}
-use Rattle.up_isolation.proofs.Lives.{Life, life}
+use Rattle.up_isolation.proofs.Lives.{life}
 use Rattle.up_isolation.proofs.Lives as lives
 use Rattle.up_isolation.proofs.Sights.{told}
 use Rattle.up_isolation.proofs.Twins.{Twins, Match}

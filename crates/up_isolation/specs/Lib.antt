@@ -6,3 +6,5 @@ pub mod Parts
 pub mod Isolation
 -- What a job does in each step of a run.
 pub mod Steps
+-- A job in runs, from their start.
+pub mod Runs

@@ -1,10 +1,10 @@
 //! Laws: what a job does depends only on what comes to its notice.
-ghost use Rattle.std.specs.Prelude.{ℕ, ◌≡◌, List, [], ◌∷◌, ◌++◌};
-ghost use Rattle.up_isolation.specs.Isolation.{GrowsByAtMostOne, IsUnique, MeanTheSame};
-ghost use Rattle.up_isolation.specs.Parts.{part as part_of};
+ghost use Rattle.std.specs.Prelude.{ℕ, ◌≡◌, List, [], ◌++◌};
+ghost use Rattle.up_isolation.specs.Isolation.{GrowsByAtMostOne, IsUnique};
+ghost use Rattle.up_isolation.specs.Runs.{Brings, OfTwoRuns, deeds_of, part_of, part_with, view_of, view_with};
 ghost use Rattle.up_isolation.specs.Steps.{AreStepsOf, deeds_by_step, joined, orders_of, outputs_in};
-ghost use Rattle.up_isolation.specs.Views.{AreAmong, deeds, deeds_in, Notice, view};
-ghost use Rattle.up_model.specs.Answers.{after, after_all, answers, next};
+ghost use Rattle.up_isolation.specs.Views.{AreAmong, deeds, deeds_in, Notice};
+ghost use Rattle.up_model.specs.Answers.{after, answers};
 ghost use Rattle.up_model.specs.Chronicle.{Chronicle};
 ghost use Rattle.up_model.specs.Configuration.{Configuration};
 ghost use Rattle.up_model.specs.Outputs.{outputs_of};
@@ -14,31 +14,21 @@ ghost use Rattle.up_model.specs.declared.input.Input.{Input};
 /// steps that add the same notice lead to equal parts.
 pub fn part()
     ensures one { (job : List ℕ) (config : Configuration) (inputs : List Input) (given : Input) → IsUnique job config
-        → GrowsByAtMostOne (view job config (after_all config [] inputs))
-        (view job config (next config (after_all config [] inputs) given)) }
+        → GrowsByAtMostOne (view_of job config inputs) (view_with job config inputs given) }
     ensures still { (job : List ℕ) (config : Configuration) (inputs : List Input) (given : Input) → IsUnique job config
-        → view job config (next config (after_all config [] inputs) given)
-        ≡ view job config (after_all config [] inputs)
-        → part_of job config (next config (after_all config [] inputs) given)
-        ≡ part_of job config (after_all config [] inputs) }
-    ensures same { (job : List ℕ) (first second : Configuration) (inputs others : List Input) (given other : Input)
-        (notice : Notice) → IsUnique job first → MeanTheSame job first second
-        → part_of job first (after_all first [] inputs) ≡ part_of job second (after_all second [] others)
-        → view job first (next first (after_all first [] inputs) given)
-        ≡ notice ∷ view job first (after_all first [] inputs)
-        → view job second (next second (after_all second [] others) other)
-        ≡ notice ∷ view job second (after_all second [] others)
-        → part_of job first (next first (after_all first [] inputs) given)
-        ≡ part_of job second (next second (after_all second [] others) other) }
+        → view_with job config inputs given ≡ view_of job config inputs
+        → part_with job config inputs given ≡ part_of job config inputs }
+    ensures same { OfTwoRuns (λ job first second inputs others. (given other : Input) (notice : Notice)
+        → part_of job first inputs ≡ part_of job second others
+        → Brings job first inputs given notice → Brings job second others other notice
+        → part_with job first inputs given ≡ part_with job second others other) }
 {}
 
 /// In two runs in which the same comes to a job's notice, the job does the same: if the bases are the same and the job's file means the
 /// same, or neither folder has it.
 pub fn isolation()
-    ensures { (job : List ℕ) (first second : Configuration) (inputs others : List Input)
-        → IsUnique job first → MeanTheSame job first second
-        → view job first (after_all first [] inputs) ≡ view job second (after_all second [] others)
-        → deeds job (after_all first [] inputs) ≡ deeds job (after_all second [] others) }
+    ensures { OfTwoRuns (λ job first second inputs others. view_of job first inputs ≡ view_of job second others
+        → deeds_of job first inputs ≡ deeds_of job second others) }
 {}
 
 /// What a job does after an input is what it did before and what it does in the last step, and that is among the step's
@@ -53,7 +43,7 @@ pub fn deeds_are_outputs()
 /// the job does. The starts and signals in it are all those of the answers that name the job.
 pub fn deeds_are_answers()
     ensures whole { (job : List ℕ) (config : Configuration) (inputs : List Input)
-        → joined (deeds_by_step job config [] inputs) ≡ deeds job (after_all config [] inputs) }
+        → joined (deeds_by_step job config [] inputs) ≡ deeds_of job config inputs }
     ensures among { (job : List ℕ) (config : Configuration) (c : Chronicle) (inputs : List Input)
         → AreStepsOf (deeds_by_step job config c inputs) (answers config c inputs) }
     ensures orders { (job : List ℕ) (config : Configuration) (c : Chronicle) (inputs : List Input)

@@ -8,7 +8,6 @@ ghost use Rattle.up_job.specs.InstanceLists.{max_instances, name_of, named, new_
 ghost use Rattle.up_job.specs.JobLists.{changed_at, changed_in, instance_at, instances_at, job_of, key_of, position_at, removed_at, removed_in, with_made};
 ghost use Rattle.up_job.specs.Lending.{stop_on_of, LendsStopOnAt};
 ghost use Rattle.up_job.specs.Lists.{nth, with_at, position_in};
-ghost use Rattle.up_job.specs.Named as by_name;
 ghost use Rattle.up_job.specs.Unblocking.{IsBlocked, NobodyWaits, key_from, unblocked_in};
 
 use crate::alarm::{alarm_after, earliest};

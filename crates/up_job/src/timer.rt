@@ -1,5 +1,5 @@
 //! When the timer kills main.
-ghost use Rattle.std.specs.Prelude.{◌≡◌, ℕ, is_some};
+ghost use Rattle.std.specs.Prelude.{◌≡◌, ℕ};
 ghost use Rattle.up_model.specs.Chronicle.{Chronicle};
 ghost use Rattle.up_model.specs.Clock as clock;
 ghost use Rattle.up_job.specs.Timers.{is_dying, is_overdue, kill_at, IsKept};

@@ -1,6 +1,5 @@
 //! Laws: what an offer leaves unchanged, so that an engine need only offer an event to the leaves that name it.
 ghost use Rattle.std.specs.Prelude.{◌≡◌, ◌<◌, ◌≤◌, ℕ, nat_lt, true, false, List, [], ◌∷◌, ◌++◌, Option, None, Some};
-ghost use Rattle.up_conf.specs.declared.job.JobDef.{JobDef};
 ghost use Rattle.up_expr.specs.Trees.{Tree};
 ghost use Rattle.up_expr.specs.Truth.{Sight};
 ghost use Rattle.up_expr.specs.Truth as truth;

@@ -8,4 +8,4 @@ pub returns-clause-still : goal.returns-clause-still
 returns-clause-still c = law-still
 
 pub returns-clause-same : goal.returns-clause-same
-returns-clause-same c = law-part
+returns-clause-same c = λ job first second inputs others one same given other notice. law-part job first second inputs others given other notice one same

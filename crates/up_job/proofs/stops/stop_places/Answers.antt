@@ -1,4 +1,4 @@
-use Rattle.std.proofs.Common.{◌≡◌, ◌++◌, ◌∙◌, ap, arith}
+use Rattle.std.proofs.Common.{◌++◌, ◌∙◌, ap, arith}
 use Rattle.up_job.specs.JobLists.{stops_of}
 use Rattle.up_job.proofs.StopLemmas.{stop_places-more}
 use Rattle.up_job.proofs.stops.stop_places.Goals as goal

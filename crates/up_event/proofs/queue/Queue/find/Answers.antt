@@ -1,4 +1,4 @@
-use Rattle.std.proofs.Common.{◌≡◌, ◌∙◌, ap, option_map}
+use Rattle.std.proofs.Common.{◌∙◌, ap, option_map}
 use Rattle.up_event.specs.declared.nodes.Node.{Node}
 use Rattle.up_event.proofs.Steps.{node_of}
 use Rattle.up_event.proofs.queue.Queue.find.Goals as goal
