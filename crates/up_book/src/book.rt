@@ -3,7 +3,7 @@ ghost use Rattle.std.specs.Prelude.{◌≡◌, ◌≤◌, ◌<◌, ℕ, true, fa
 ghost use Rattle.std.specs.Option.{option_copied, option_map_or};
 ghost use Rattle.up_book.specs.declared.holders.Holders.{Holders as HoldersValue};
 ghost use Rattle.up_book.specs.Hearers.{IsNextHearer};
-ghost use Rattle.up_book.specs.Histories.{HoldersAt, KeepsPlaces, OfEvent, OfInstance, OfWhole, after_leaving, start_events, stop_events};
+ghost use Rattle.up_book.specs.Histories.{HoldersAt, KeepsPlaces, OfEvent, OfFiled, OfHeld, OfHeldMaking, OfInstance, OfMaking, OfStartOffer, OfStopOffer, OfWhole, PassesBy, after_leaving, after_making, after_release, start_events, stop_events};
 ghost use Rattle.up_model.specs.Predicates.{is_waiting};
 ghost use Rattle.up_book.specs.Keeps.{AreDistinct};
 ghost use Rattle.up_book.specs.Keys.{Mode, Resting, Stepping, SpeaksOf, held_as, request_place, job_at, name_at, instance_place, given_place, called};
@@ -11,11 +11,9 @@ ghost use Rattle.up_book.specs.Turning.{turn_at};
 ghost use Rattle.up_book.specs.Unblocking.{IsBlockedBy};
 ghost use Rattle.up_conf.specs.declared.job.JobDef.{JobDef as JobValue};
 ghost use Rattle.up_job.specs.declared.instance_key.InstanceKey.{InstanceKey as KeyValue};
-ghost use Rattle.up_marks.specs.Ruling.{may_hear};
 ghost use Rattle.up_model.specs.declared.event_id.EventId.{EventId as EventIdValue};
 ghost use Rattle.up_model.specs.declared.input.Input.{Input as InputValue};
 ghost use Rattle.up_model.specs.declared.state.Goal.TheVariants.{Stop as goal_stop};
-ghost use Rattle.up_model.specs.declared.state.State.TheVariants as entered;
 ghost use Rattle.up_model.specs.Chronicle.{Chronicle, Expression as ExpressionValue};
 ghost use Rattle.up_model.specs.Chronicle as entry;
 ghost use Rattle.up_model.specs.Clock as clock;
@@ -23,7 +21,6 @@ ghost use Rattle.up_model.specs.Configuration.{Configuration, job_named};
 ghost use Rattle.up_model.specs.Loads.{with_jobs};
 ghost use Rattle.up_job.specs.Named.{AreInOrder};
 ghost use Rattle.up_book.specs.Keys.{name_of};
-ghost use Rattle.up_model.specs.Environments.{env_of_job};
 ghost use Rattle.up_model.specs.Due.{turn_event, telling};
 ghost use Rattle.up_model.specs.Files.{names_in_order};
 ghost use Rattle.up_model.specs.Held as held;
@@ -87,17 +84,13 @@ pub trait Book: Drop {
 
     /// Whether the limit in its file allows one more respawn of an instance (init(5), `respawn limit`).
     fn may_respawn(&self, key: InstanceKey) -> bool
-        ensures { (mode : Mode) (config : Configuration) (c : Chronicle) (i : ℕ) (job : JobValue)
-            → stands self.now mode config c
-            → instance_place config c key ≡ Some i → read.file_of i c ≡ Some job
-            → result ≡ clock.may_respawn job.limit i c };
+        ensures { (mode : Mode) (config : Configuration) → OfFiled (stands self.now mode) config key (λ c i job.
+            result ≡ clock.may_respawn job.limit i c) };
 
     /// Whether the timer is to kill main of an instance, by its file (init(5), `kill timeout`).
     fn is_overdue(&self, key: InstanceKey) -> bool
-        ensures { (mode : Mode) (config : Configuration) (c : Chronicle) (i : ℕ) (job : JobValue)
-            → stands self.now mode config c
-            → instance_place config c key ≡ Some i → read.file_of i c ≡ Some job
-            → result ≡ clock.kill_due job i c };
+        ensures { (mode : Mode) (config : Configuration) → OfFiled (stands self.now mode) config key (λ c i job.
+            result ≡ clock.kill_due job i c) };
 
     /// A reading of the clock, in milliseconds, before which the timer kills nobody. Takes no memory.
     fn alarm(&self) -> u128
@@ -270,13 +263,13 @@ pub trait Book: Drop {
     /// An instance releases its holders; clients among them are answered.
     fn release(&mut self, key: InstanceKey) -> Result<(), AllocError>
         ensures after { OnOk result ((config : Configuration) → OfInstance (stands self.old Stepping) config key (λ c i.
-            stands self.new Stepping config (replies.releasing i false c ++ c))) }
+            stands self.new Stepping config (after_release i c))) }
         ensures holders { OnOk result ((config : Configuration) (c : Chronicle) (i : ℕ) (its : HoldersValue) (places : List ℕ)
             → stands self.old Stepping config c → instance_place config c key ≡ Some i
             → HoldersAt (event_place self.old) its places c
-            → HoldersAt (event_place self.new) its places (replies.releasing i false c ++ c)) }
+            → HoldersAt (event_place self.new) its places (after_release i c)) }
         ensures events { OnOk result ((config : Configuration) → OfInstance (stands self.old Stepping) config key (λ c i.
-            KeepsPlaces event_place self.old self.new c (replies.releasing i false c ++ c))) };
+            KeepsPlaces event_place self.old self.new c (after_release i c))) };
 
     /// An instance's goal changes, with the environment and the holders that go with it.
     fn aim(
@@ -286,20 +279,17 @@ pub trait Book: Drop {
         environment: Env,
         holders: Holders,
     ) -> Result<(), AllocError>
-        ensures after { OnOk result ((config : Configuration) (c : Chronicle) (i : ℕ) (places : List ℕ)
-            → stands self.old Stepping config c → instance_place config c key ≡ Some i
-            → HoldersAt (event_place self.old) holders places c
-            → stands self.new Stepping config (entry.Aimed i goal environment places ∷ c)) }
-        ensures events { OnOk result ((config : Configuration) (c : Chronicle) (i : ℕ) (places : List ℕ)
-            → stands self.old Stepping config c → instance_place config c key ≡ Some i
-            → HoldersAt (event_place self.old) holders places c
-            → KeepsPlaces event_place self.old self.new c (entry.Aimed i goal environment places ∷ c)) };
+        ensures after { OnOk result ((config : Configuration)
+            → OfHeld (stands self.old Stepping) (event_place self.old) config key holders (λ c i places.
+            stands self.new Stepping config (entry.Aimed i goal environment places ∷ c))) }
+        ensures events { OnOk result ((config : Configuration)
+            → OfHeld (stands self.old Stepping) (event_place self.old) config key holders (λ c i places.
+            KeepsPlaces event_place self.old self.new c (entry.Aimed i goal environment places ∷ c))) };
 
     fn restart(&mut self, key: InstanceKey, holders: Holders) -> Result<(), AllocError>
-        ensures { OnOk result ((config : Configuration) (c : Chronicle) (i : ℕ) (places : List ℕ)
-            → stands self.old Stepping config c → instance_place config c key ≡ Some i
-            → HoldersAt (event_place self.old) holders places c
-            → stands self.new Stepping config (entry.Restarted i places ∷ c)) };
+        ensures { OnOk result ((config : Configuration)
+            → OfHeld (stands self.old Stepping) (event_place self.old) config key holders (λ c i places.
+            stands self.new Stepping config (entry.Restarted i places ∷ c))) };
 
     /// An instance's goal becomes stop by itself; its holders stay.
     fn end_itself(&mut self, key: InstanceKey) -> Result<(), AllocError>
@@ -314,22 +304,18 @@ pub trait Book: Drop {
 
     /// Makes an instance of this name, which the job at an index of the table didn't have, from this file of the job.
     fn make(&mut self, index: usize, file: &JobFile, name: &str) -> Result<InstanceKey, AllocError>
-        ensures after { OnOk result ((config : Configuration) (c : Chronicle)
-            → stands self.old Stepping config c → job_at config index ≡ Some file.now
-            → instance_named (called file.now.name name.now) c ≡ None
-            → stands self.new Stepping config (entry.Made file.now name.now ∷ c)) }
-        ensures made { IfOk result (λ key. (config : Configuration) (c : Chronicle)
-            → stands self.old Stepping config c → job_at config index ≡ Some file.now
-            → instance_named (called file.now.name name.now) c ≡ None
-            → instance_place config (entry.Made file.now name.now ∷ c) key ≡ Some (length c)) }
-        ensures holders { OnOk result ((config : Configuration) (c : Chronicle) (who : HoldersValue) (places : List ℕ)
-            → stands self.old Stepping config c → job_at config index ≡ Some file.now
-            → instance_named (called file.now.name name.now) c ≡ None → HoldersAt (event_place self.old) who places c
-            → held_as (event_place self.new (entry.Made file.now name.now ∷ c)) (request_place c) who ≡ map Some places) }
-        ensures events { OnOk result ((config : Configuration) (c : Chronicle)
-            → stands self.old Stepping config c → job_at config index ≡ Some file.now
-            → instance_named (called file.now.name name.now) c ≡ None
-            → KeepsPlaces event_place self.old self.new c (entry.Made file.now name.now ∷ c)) };
+        ensures after { OnOk result ((config : Configuration)
+            → OfMaking (stands self.old Stepping) config index file.now name.now (λ c.
+            stands self.new Stepping config (after_making file.now name.now c))) }
+        ensures made { IfOk result (λ key. (config : Configuration)
+            → OfMaking (stands self.old Stepping) config index file.now name.now (λ c.
+            instance_place config (after_making file.now name.now c) key ≡ Some (length c))) }
+        ensures holders { OnOk result ((config : Configuration)
+            → OfHeldMaking (stands self.old Stepping) (event_place self.old) config index file.now name.now (λ c who places.
+            held_as (event_place self.new (after_making file.now name.now c)) (request_place c) who ≡ map Some places)) }
+        ensures events { OnOk result ((config : Configuration)
+            → OfMaking (stands self.old Stepping) config index file.now name.now (λ c.
+            KeepsPlaces event_place self.old self.new c (after_making file.now name.now c))) };
 
     /// These jobs come into force, in byte order of names: by a load, in a step in which no request has acted on an instance. What each
     /// `start on` had seen is forgotten, and instances continue with their own files.
@@ -356,11 +342,11 @@ pub trait Book: Drop {
     fn passes_by(&self)
         ensures start { (config : Configuration) (c : Chronicle) (n : ℕ) (job : JobValue) (e : ℕ)
             → stands self.now Stepping config c → job_at config n ≡ Some job
-            → may_hear job.start_on (read.event_at e c) ≡ false
+            → PassesBy job.start_on e c
             → stands self.now Stepping config (entry.Offered (entry.StartOn job.name) e ∷ c) }
         ensures stop { (config : Configuration) (c : Chronicle) (key : KeyValue) (job : JobValue) (i e : ℕ)
             → stands self.now Stepping config c → instance_place config c key ≡ Some i
-            → read.file_of i c ≡ Some job → may_hear job.stop_on (read.event_at e c) ≡ false
+            → read.file_of i c ≡ Some job → PassesBy job.stop_on e c
             → stands self.now Stepping config (entry.Offered (entry.StopOn i) e ∷ c) }
         ensures events { (c : Chronicle) (x : ExpressionValue) (e : ℕ) (k : EventIdValue)
             → event_place self.now (entry.Offered x e ∷ c) k ≡ event_place self.now c k };
@@ -372,21 +358,16 @@ pub trait Book: Drop {
         key: InstanceKey,
         event: EventId,
     ) -> Result<bool, AllocError>
-        ensures after { OnOk result ((config : Configuration) (c : Chronicle) (i e : ℕ)
-            → stands self.old Stepping config c
-            → instance_place config c key ≡ Some i → read.file_of i c ≡ Some file.now
-            → event_place self.old c event ≡ Some e
-            → stands self.new Stepping config (entry.Offered (entry.StopOn i) e ∷ c)) }
-        ensures holds { IfOk result (λ holds. (config : Configuration) (c : Chronicle) (i e : ℕ)
-            → stands self.old Stepping config c
-            → instance_place config c key ≡ Some i → read.file_of i c ≡ Some file.now
-            → event_place self.old c event ≡ Some e
-            → holds ≡ seen.holds file.now.stop_on
-            (seen.seen config (entry.StopOn i) (entry.Offered (entry.StopOn i) e ∷ c))) }
-        ensures events { OnOk result ((config : Configuration) (c : Chronicle) (i e : ℕ)
-            → stands self.old Stepping config c → instance_place config c key ≡ Some i
-            → read.file_of i c ≡ Some file.now → event_place self.old c event ≡ Some e
-            → KeepsPlaces event_place self.old self.new c (entry.Offered (entry.StopOn i) e ∷ c)) };
+        ensures after { OnOk result ((config : Configuration)
+            → OfStopOffer (stands self.old Stepping) (event_place self.old) config key file.now event (λ c i e.
+            stands self.new Stepping config (entry.Offered (entry.StopOn i) e ∷ c))) }
+        ensures holds { IfOk result (λ holds. (config : Configuration)
+            → OfStopOffer (stands self.old Stepping) (event_place self.old) config key file.now event (λ c i e.
+            holds ≡ seen.holds file.now.stop_on
+            (seen.seen config (entry.StopOn i) (entry.Offered (entry.StopOn i) e ∷ c)))) }
+        ensures events { OnOk result ((config : Configuration)
+            → OfStopOffer (stands self.old Stepping) (event_place self.old) config key file.now event (λ c i e.
+            KeepsPlaces event_place self.old self.new c (entry.Offered (entry.StopOn i) e ∷ c))) };
 
     /// Offers an event to the `start on` of the job at an index of the table, which has this environment; returns whether that is then
     /// true.
@@ -397,20 +378,16 @@ pub trait Book: Drop {
         env: &Env,
         event: EventId,
     ) -> Result<bool, AllocError>
-        ensures after { OnOk result ((config : Configuration) (c : Chronicle) (e : ℕ)
-            → stands self.old Stepping config c → job_at config index ≡ Some job.now
-            → env.now ≡ env_of_job config job.now.name → event_place self.old c event ≡ Some e
-            → stands self.new Stepping config (entry.Offered (entry.StartOn job.now.name) e ∷ c)) }
-        ensures holds { IfOk result (λ holds. (config : Configuration) (c : Chronicle) (e : ℕ)
-            → stands self.old Stepping config c → job_at config index ≡ Some job.now
-            → env.now ≡ env_of_job config job.now.name → event_place self.old c event ≡ Some e
-            → holds ≡ seen.holds job.now.start_on
-            (seen.seen config (entry.StartOn job.now.name)
-            (entry.Offered (entry.StartOn job.now.name) e ∷ c))) }
-        ensures events { OnOk result ((config : Configuration) (c : Chronicle) (e : ℕ)
-            → stands self.old Stepping config c → job_at config index ≡ Some job.now
-            → env.now ≡ env_of_job config job.now.name → event_place self.old c event ≡ Some e
-            → KeepsPlaces event_place self.old self.new c (entry.Offered (entry.StartOn job.now.name) e ∷ c)) };
+        ensures after { OnOk result ((config : Configuration)
+            → OfStartOffer (stands self.old Stepping) (event_place self.old) config index job.now env.now event (λ c e.
+            stands self.new Stepping config (entry.Offered (entry.StartOn job.now.name) e ∷ c))) }
+        ensures holds { IfOk result (λ holds. (config : Configuration)
+            → OfStartOffer (stands self.old Stepping) (event_place self.old) config index job.now env.now event (λ c e.
+            holds ≡ seen.holds job.now.start_on
+            (seen.seen config (entry.StartOn job.now.name) (entry.Offered (entry.StartOn job.now.name) e ∷ c)))) }
+        ensures events { OnOk result ((config : Configuration)
+            → OfStartOffer (stands self.old Stepping) (event_place self.old) config index job.now env.now event (λ c e.
+            KeepsPlaces event_place self.old self.new c (entry.Offered (entry.StartOn job.now.name) e ∷ c))) };
 
     /// The `stop on` of an instance fires; returns the events that it takes, from left to right.
     fn fire_stop(&mut self, job: &JobDef, key: InstanceKey) -> Result<Items<EventId>, AllocError>
