@@ -2,10 +2,9 @@
 use Rattle.std.specs.Prelude.{◌≡◌, ℕ, List, ◌∷◌, ◌++◌, map, None, Some}
 use Rattle.up_book.specs.declared.holders.Holders.{Holders}
 use Rattle.up_book.specs.Histories.{HoldersAt, adding}
-use Rattle.up_book.specs.Keys.{Mode, called, instance_place, job_at}
+use Rattle.up_book.specs.Keys.{Mode, called, job_at}
 use Rattle.up_book.specs.Views.{Places}
 use Rattle.up_conf.specs.declared.job.JobDef.{JobDef}
-use Rattle.up_job.specs.declared.instance_key.InstanceKey.{InstanceKey}
 use Rattle.up_model.specs.declared.event_id.EventId.{EventId}
 use Rattle.up_model.specs.declared.input.Input.TheVariants.{Turn}
 use Rattle.up_model.specs.declared.life.EntryActions.{EntryActions}
@@ -20,13 +19,8 @@ use Rattle.up_model.specs.Offers as offers
 use Rattle.up_model.specs.Values.{Bytes, Bindings}
 use Rattle.up_text.specs.Bindings.{set_all}
 
--- what is said of a history, of the place of an instance, and of those of holders that it may get, holds of each for which a book stands
-abbrev pub OfHeld : (Configuration → Chronicle → Type 0) → (events : Chronicle → Places) → Configuration → InstanceKey → Holders
-    → (Chronicle → (instance : ℕ) → (places : List ℕ) → Type 0) → Type 0
-OfHeld stands events config key holders says = (c : Chronicle) (i : ℕ) (places : List ℕ) → stands config c
-    → instance_place config c key ≡ Some i → HoldersAt events holders places c → says c i places
-
--- the same of a job at an index of the table, and of holders that an instance of it may get
+-- what is said of a history, and of the places of holders that an instance of the job at an index of the table may get, holds of each for which a
+-- book stands
 abbrev pub OfStarted : (Configuration → Chronicle → Type 0) → (events : Chronicle → Places) → Configuration → (index : ℕ) → JobDef → Holders
     → (Chronicle → (places : List ℕ) → Type 0) → Type 0
 OfStarted stands events config index job holders says = (c : Chronicle) (places : List ℕ) → stands config c
@@ -48,10 +42,6 @@ start_env_by config job name places c = offers.start_env config (offers.who_call
 -- and that of a start by a request with these variables
 abbrev pub request_env_by : Configuration → JobDef → (name : Bytes) → (vars : Bindings) → Chronicle → Bindings
 request_env_by config job name vars c = set_all (start_base config (called job.name name) c) vars
-
--- no instance of a job has this name
-abbrev pub IsUnmade : JobDef → (name : Bytes) → Chronicle → Type 0
-IsUnmade job name c = instance_named (called job.name name) c ≡ None
 
 -- what comes of the start, in this environment, of the instance of a name, which is still to be made
 abbrev pub start_made : JobDef → (name : Bytes) → Bindings → (places : List ℕ) → Chronicle → List Entry

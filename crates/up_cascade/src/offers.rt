@@ -1,7 +1,7 @@
 //! How the event of a turn is offered to the expressions, and the effect of one that fires.
 ghost use Rattle.std.specs.Prelude.{◌≡◌, ℕ, nat_lt, length, List, ◌++◌, map, Some, IfOk, OnOk};
-ghost use Rattle.up_book.specs.Histories.{KeepsPlaces, OfInstance};
-ghost use Rattle.up_cascade.specs.Histories.{IsUnmade, OfHeld, OfStarted, start_made, start_named};
+ghost use Rattle.up_book.specs.Histories.{IsUnmade, KeepsPlaces, OfHeld, OfInstance};
+ghost use Rattle.up_cascade.specs.Histories.{OfStarted, start_made, start_named};
 ghost use Rattle.up_book.specs.Keys.{job_at, Mode, Stepping, name_at, instance_place};
 ghost use Rattle.up_model.specs.Chronicle.{Chronicle};
 ghost use Rattle.up_model.specs.Configuration.{Configuration};

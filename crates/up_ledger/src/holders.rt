@@ -1,8 +1,7 @@
 //! The holders of an instance, as they are kept.
-ghost use Rattle.std.specs.Prelude.{◌≡◌, ◌∷◌, [], IfOk, OnOk};
+ghost use Rattle.std.specs.Prelude.{◌≡◌, ◌∷◌, [], IfOk};
 ghost use Rattle.up_ledger.specs.Asking.{client_of};
 ghost use Rattle.up_ledger.specs.Holding.{as_holders, holders_by};
-ghost use Rattle.up_job.specs.declared.holder.Holder.{Holder as HolderValue};
 
 use crate::step::Asked;
 use std::alloc::{AllocError, Global};

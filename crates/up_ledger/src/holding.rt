@@ -2,7 +2,7 @@
 ghost use Rattle.std.specs.Prelude.{◌≡◌, ◌==◌, not, OnOk, true};
 ghost use Rattle.std.specs.Option.{option_copied};
 ghost use Rattle.up_ledger.specs.Eventing.{holds_of};
-ghost use Rattle.up_event.specs.LiveEvents.{with_change, with_hold, MayBeHeld, IsHeld};
+ghost use Rattle.up_event.specs.LiveEvents.{with_change, with_hold, MayBeHeld};
 ghost use Rattle.up_ledger.specs.Counting.{event_of};
 ghost use Rattle.up_ledger.specs.Holding.{freed, changed_by, all_changed, held_by_kept, as_holders};
 ghost use Rattle.up_marks.specs.Triggers.{kept_by};

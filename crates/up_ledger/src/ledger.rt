@@ -1,5 +1,5 @@
 //! The book of an engine: what is kept of the past, and of the step that isn't over.
-ghost use Rattle.std.specs.Prelude.{◌≡◌, ◌++◌, ◌∷◌, ℕ, [], None, Some, map, IsOk, IfOk, OnOk};
+ghost use Rattle.std.specs.Prelude.{◌≡◌, ◌++◌, ℕ, [], None, Some, IsOk, IfOk, OnOk};
 ghost use Rattle.up_book.specs.Keys.{Resting, Stepping, name_of};
 ghost use Rattle.up_ledger.specs.Ledgers.{AreLeaves, Stands};
 ghost use Rattle.up_ledger.specs.Requesting.{OnMeans};
@@ -8,7 +8,6 @@ ghost use Rattle.up_book.specs.Views.{kept_at};
 ghost use Rattle.up_image.specs.Index.{named};
 ghost use Rattle.up_job.specs.JobLists.{stop_places};
 ghost use Rattle.up_job.specs.Lists.{nth};
-ghost use Rattle.up_conf.specs.declared.job.JobDef.{JobDef as JobValue};
 ghost use Rattle.up_model.specs.Chronicle.{Chronicle};
 ghost use Rattle.up_model.specs.Configuration.{Configuration, started_with};
 ghost use Rattle.up_job.specs.Named.{AreInOrder};
