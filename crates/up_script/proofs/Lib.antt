@@ -3,6 +3,7 @@ pub mod Bundles
 pub mod Compared
 pub mod Cutting
 pub mod Growing
+pub mod Hashless
 pub mod Headers
 pub mod Loadless
 pub mod Passing

@@ -8,7 +8,6 @@ use Rattle.up_conf.specs.declared.job.JobDef.{JobDef}
 use Rattle.up_stanza.specs.declared.process.Process.{Process}
 use Rattle.up_model.specs.declared.input.Input.{Input}
 use Rattle.up_model.specs.declared.input.Input.TheVariants as input
-use Rattle.up_model.specs.declared.loaded.Loaded.{Loaded}
 use Rattle.up_model.specs.declared.loaded.Loaded.TheVariants as loaded
 use Rattle.up_model.specs.declared.process.How.{How}
 use Rattle.up_model.specs.declared.request.Request.{Request}

@@ -1,5 +1,5 @@
 //! Reads a script.
-ghost use Rattle.std.specs.Prelude.{◌≡◌, ◌≤◌, ◌<◌, ◌+◌, IfOk, IfSome, MatchOption, OnErr, true, false, [], length, option_map};
+ghost use Rattle.std.specs.Prelude.{◌≡◌, ◌<◌, ◌+◌, IfOk, IfSome, MatchOption, OnErr, true, false, [], length, option_map};
 ghost use Rattle.up_stanza.specs.Reading.{LacksMemory};
 ghost use Rattle.up_text.specs.Places.{reading};
 ghost use Rattle.up_text.specs.Lexemes.{lexemes_of, stanzas};
@@ -173,7 +173,7 @@ fn lines_inputs(
 
 /// The inputs of a script that begins on this line, or its first bad line. Each load takes the next of the tables, which are those of
 /// a bundle's later folders.
-#[tactic(auto, unfolding(crate::specs::Statements::script_inputs), using(up_text::proofs::Comments::no_longer))]
+#[tactic(auto, unfolding(crate::specs::Statements::script_inputs), using(up_text::proofs::Comments::no_longer, crate::proofs::Hashless::no_comments))]
 pub fn read_inputs_with(
     alloc: Global,
     tables: &mut VecDeque<Table>,
@@ -183,6 +183,10 @@ pub fn read_inputs_with(
     requires { line + length script.now < 4294967295 }
     ensures { IfOk result (λ read. read ≡ script_inputs tables.old.items line script.now) }
 {
+    if !script.contains(&b'#') {
+        // No comment can begin, so no copy is made.
+        return lines_inputs(alloc, tables, script, line);
+    }
     let bytes = without_comments(alloc, script)?;
     lines_inputs(alloc, tables, bytes.as_slice(), line)
 }

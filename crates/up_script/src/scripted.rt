@@ -1,5 +1,5 @@
 //! The inputs of a script.
-ghost use Rattle.std.specs.Prelude.{◌≡◌, ◌++◌, ◌∷◌, [], IfOk, OnOk, replicate};
+ghost use Rattle.std.specs.Prelude.{◌≡◌, ◌++◌, [], IfOk, OnOk, replicate};
 ghost use Rattle.up_model.specs.declared.input.Input.TheVariants as input;
 ghost use Rattle.up_script.specs.ScriptInputs.{inputs_of_step, inputs_of_steps};
 
