@@ -30,9 +30,13 @@ pub record EndsUnseen (event : ℕ) (c : Chronicle) : Type 0 where
 abbrev pub IsTurnOf : Configuration → (event : ℕ) → (handled : Bool) → Chronicle → Type 0
 IsTurnOf config event handled c = turn_event config (queue c) c ≡ Some (live_at event handled)
 
--- the history after it
+-- the history with a turn as its last input
+abbrev pub in_turn : Chronicle → Chronicle
+in_turn c = Given input.Turn ∷ c
+
+-- and after such a turn
 abbrev pub after_turn : (event : ℕ) → (handled : Bool) → Chronicle → Chronicle
-after_turn event handled c = adding (turn_of (Some (live_at event handled))) (Given input.Turn ∷ c)
+after_turn event handled c = adding (turn_of (Some (live_at event handled))) (in_turn c)
 
 -- a turn takes an event up of which no job hears, or, if it was taken up before, finishes one of which nobody is told
 abbrev pub IsFreeOf : Configuration → (event : ℕ) → (handled : Bool) → Chronicle → Type 0
@@ -46,7 +50,7 @@ TurnIsFree config (Some live) c = IsFreeOf config live.place live.handled c
 
 -- such a turn, or a reading of the clock at which no process is to be killed
 abbrev pub IsFree : Configuration → Chronicle → Input → Type 0
-IsFree config c input.Turn = TurnIsFree config (turn_event config (queue c) c) (Given input.Turn ∷ c)
+IsFree config c input.Turn = TurnIsFree config (turn_event config (queue c) c) (in_turn c)
 IsFree config c (input.Clock reading) =
     let d = Given (input.Clock reading) ∷ c in all_overdue (names_in_order config d) d ≡ []
 IsFree config c given = ⊥

@@ -10,3 +10,7 @@ pub mod Requests
 pub mod Stands
 -- What the book of an engine is at rest.
 pub mod Sound
+-- Runs of compiled folders that mean the same by a job.
+pub mod Alike
+-- What the timer has found.
+pub mod Found

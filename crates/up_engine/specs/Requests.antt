@@ -1,5 +1,5 @@
 -- What the code of requests hands on.
-use Rattle.std.specs.Prelude.{◌≡◌, ℕ, true, false, List, [], ◌∷◌, ◌++◌, length, Option, None, Some, ⊤}
+use Rattle.std.specs.Prelude.{◌≡◌, ℕ, Bool, true, false, List, [], ◌∷◌, ◌++◌, if◌then◌else◌, length, Option, None, Some, ⊤}
 use Rattle.up_engine.specs.declared.due.Concern.{Concern}
 use Rattle.up_engine.specs.declared.target.Target.{Target}
 use Rattle.up_engine.specs.declared.target.Target.TheVariants as target
@@ -7,15 +7,17 @@ use Rattle.up_model.specs.declared.request.Answer.{Answer}
 use Rattle.up_engine.specs.Effects.{ActsOn}
 use Rattle.up_book.specs.declared.holders.Holders.{Holders}
 use Rattle.up_book.specs.Histories.{HoldersAt}
-use Rattle.up_book.specs.Keys.{job_at, name_at, instance_place}
+use Rattle.up_book.specs.Keys.{job_at, name_at, instance_place, request_place}
 use Rattle.up_book.specs.Views.{Places}
 use Rattle.up_job.specs.declared.instance_key.InstanceKey.{InstanceKey}
 use Rattle.up_model.specs.declared.input.Input.{Input}
 use Rattle.up_model.specs.declared.input.Input.TheVariants as input
-use Rattle.up_model.specs.Chronicle.{Chronicle, Given}
+use Rattle.up_model.specs.Chronicle.{Chronicle, Entry, Given}
 use Rattle.up_model.specs.Requests.{RequestValue}
 use Rattle.up_model.specs.Commands as model
 use Rattle.up_model.specs.Configuration.{Configuration}
+use Rattle.up_model.specs.Events.{with_instance}
+use Rattle.up_model.specs.Instances.{instance_named}
 use Rattle.up_model.specs.Offers.{start_of}
 use Rattle.up_model.specs.Values.{Bytes, Bindings}
 use Rattle.up_model.specs.declared.who.Who.{Who}
@@ -42,6 +44,14 @@ abbrev pub RefusesStart : Option Bytes → Who → (instance : Option ℕ) → C
 RefusesStart text who instance c = (places : List ℕ) (job : JobDef) (environment : Bindings)
     → model.start_at places job who environment instance c ≡ unless text (model.Done (start_of job who environment places instance c))
 
+-- what a request to start the instance of a name comes to, in this environment and with what belongs to the instance
+abbrev pub start_named : JobDef → Who → Bindings → (places : List ℕ) → Chronicle → model.Outcome
+start_named file who environment places c = model.start_at places file who (with_instance who environment) (instance_named who c) c
+
+-- the client of the last input waits for its request, if that is so
+abbrev pub IsAwaited : Bool → Input → Chronicle → Type 0
+IsAwaited wait given c = request_place (Given given ∷ c) ≡ (if wait then Some (length c) else None)
+
 -- the answer that an outcome is told at once
 abbrev pub answer_of : model.Outcome → Answer
 answer_of (model.Refused text) = record { ok = false; text = text }
@@ -62,7 +72,12 @@ abbrev pub DoesTo : InstanceKey → (old new : Configuration → Chronicle → T
 DoesTo key old new config outcome = (c : Chronicle) (given : Input) (i : ℕ) → old config (Given given ∷ c)
     → instance_place config (Given given ∷ c) key ≡ Some i → new config (with_outcome given (outcome i) c)
 
--- and for these holders, by where they were queued or given
+-- a book has told entries that go by that place, and by where the input was given
+abbrev pub Tells : InstanceKey → (old new : Configuration → Chronicle → Type 0) → Configuration → ((instance given : ℕ) → List Entry) → Type 0
+Tells key old new config entries = (c : Chronicle) (given : Input) (i : ℕ) → old config (Given given ∷ c)
+    → instance_place config (Given given ∷ c) key ≡ Some i → new config (entries i (length c) ++ Given given ∷ c)
+
+-- a book has done what a request comes to, for these holders, by where they were queued or given
 abbrev pub DoesBy : Holders → (events : Chronicle → Places) → (old new : Configuration → Chronicle → Type 0) → Configuration
     → ((places : List ℕ) → Chronicle → model.Outcome) → Type 0
 DoesBy holders events old new config outcome = (c : Chronicle) (given : Input) (places : List ℕ) → old config (Given given ∷ c)

@@ -4,7 +4,7 @@ ghost use Rattle.up_book.specs.Keys.{Mode, Resting, Stepping, instance_place};
 ghost use Rattle.up_book.specs.Keeps.{AreDistinct};
 ghost use Rattle.up_book.specs.Histories.{OfEvent, adding};
 ghost use Rattle.up_engine.specs.Effects.{Concerns, concern_of, unblocked_concern};
-ghost use Rattle.up_engine.specs.Free.{ConcernsNone, EndsUnseen, IsFree, IsFreeOf, IsTurnOf, TurnIsFree, after_turn};
+ghost use Rattle.up_engine.specs.Free.{ConcernsNone, EndsUnseen, IsFree, IsFreeOf, IsTurnOf, TurnIsFree, after_turn, in_turn};
 ghost use Rattle.up_model.specs.declared.input.Input.TheVariants as given_as;
 ghost use Rattle.up_book.specs.Turning.{is_finish};
 ghost use Rattle.up_model.specs.Answers as answer;
@@ -207,14 +207,14 @@ fn unblocked_concern(on: Option<InstanceKey>) -> Concern
 fn finish<B: Book>(alloc: Global, book: &mut B, key: EventId) -> Result<Concern, AllocError>
     ensures after { OnOk result ((config : Configuration)
         → OfEvent (B.stands book.old Resting) (B.event_place book.old) config key (λ c e. held.is_held config e c ≡ false
-        → B.stands book.new Stepping config (adding (model.finishing e) (entry.Given given_as.Turn ∷ c)))) }
+        → B.stands book.new Stepping config (adding (model.finishing e) (in_turn c)))) }
     ensures concerns { IfOk result (λ concern. (config : Configuration) → AreDistinct config.jobs
         → OfEvent (B.stands book.old Resting) (B.event_place book.old) config key (λ c e. held.is_held config e c ≡ false
         → IsTurnOf config e true c → Concerns (B.event_place book.new) concern config given_as.Turn c)) }
     ensures free { (config : Configuration)
         → OfEvent (B.stands book.old Resting) (B.event_place book.old) config key (λ c e. held.is_held config e c ≡ false
-        → EndsUnseen e (entry.Given given_as.Turn ∷ c) → IsOkAnd result (ConcernsNone (B.event_place book.new) config
-        (adding (model.finishing e) (entry.Given given_as.Turn ∷ c)))) }
+        → EndsUnseen e (in_turn c) → IsOkAnd result (ConcernsNone (B.event_place book.new) config
+        (adding (model.finishing e) (in_turn c)))) }
 {
     book.begin_step(&Input::Turn, None);
     let told = failed_event_of(alloc, book, key)?;
@@ -225,10 +225,10 @@ fn finish<B: Book>(alloc: Global, book: &mut B, key: EventId) -> Result<Concern,
 fn handle<B: Book>(book: &mut B, key: EventId)
     ensures after { (config : Configuration)
         → OfEvent (B.stands book.old Resting) (B.event_place book.old) config key
-        (λ c e. B.stands book.new Stepping config (entry.Handled e ∷ entry.Given given_as.Turn ∷ c)) }
+        (λ c e. B.stands book.new Stepping config (entry.Handled e ∷ in_turn c)) }
     ensures events { (config : Configuration)
         → OfEvent (B.stands book.old Resting) (B.event_place book.old) config key
-        (λ c e. B.event_place book.new (entry.Handled e ∷ entry.Given given_as.Turn ∷ c) key ≡ Some e) }
+        (λ c e. B.event_place book.new (entry.Handled e ∷ in_turn c) key ≡ Some e) }
 {
     book.begin_step(&Input::Turn, None);
     book.handle(key)
@@ -252,7 +252,7 @@ fn turn_by<B: Book>(
     ensures free { (config : Configuration)
         → OfEvent (B.stands book.old Resting) (B.event_place book.old) config id
         (λ c e. IsTurnOf config e (is_finish kind) c
-        → IsFreeOf config e (is_finish kind) (entry.Given given_as.Turn ∷ c)
+        → IsFreeOf config e (is_finish kind) (in_turn c)
         → IsOkAnd result (ConcernsNone (B.event_place book.new) config
         (after_turn e (is_finish kind) c))) }
 {
@@ -276,7 +276,7 @@ fn take_turn<B: Book>(alloc: Global, book: &mut B) -> Result<Concern, AllocError
         → AreDistinct config.jobs → B.stands book.old Resting config c
         → Concerns (B.event_place book.new) concern config given_as.Turn c) }
     ensures free { (config : Configuration) (c : Chronicle) → B.stands book.old Resting config c
-        → TurnIsFree config (model.turn_event config (queue.queue c) c) (entry.Given given_as.Turn ∷ c)
+        → TurnIsFree config (model.turn_event config (queue.queue c) c) (in_turn c)
         → IsOkAnd result (ConcernsNone (B.event_place book.new) config
         (model.effect config given_as.Turn c ++ c)) }
 {

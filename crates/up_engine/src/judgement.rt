@@ -5,7 +5,7 @@ ghost use Rattle.up_engine.specs.Effects.{Judges};
 ghost use Rattle.std.specs.List.{list_any};
 ghost use Rattle.up_stanza.specs.Exits.{same_exit};
 ghost use Rattle.up_model.specs.Chronicle.{Chronicle, Entry as EntryValue};
-ghost use Rattle.up_model.specs.Configuration.{Configuration, job_named};
+ghost use Rattle.up_model.specs.Configuration.{Configuration};
 ghost use Rattle.up_model.specs.Due.{end_of, end_by};
 ghost use Rattle.up_model.specs.Readings as read;
 ghost use Rattle.up_model.specs.Judgement as model;

@@ -3,14 +3,14 @@ ghost use Rattle.std.specs.Prelude.{◌≡◌, ℕ, [], false, List, None, Ok, r
 ghost use Rattle.up_conf.specs.declared.folder.File.{File};
 ghost use Rattle.up_conf.specs.declared.job.JobDef.{JobDef};
 ghost use Rattle.up_conf.specs.declared.report.Fault.{Fault};
+ghost use Rattle.up_engine.specs.Alike.{OfAlikeRuns};
 ghost use Rattle.up_engine.specs.declared.engine.Engine.{Engine};
 ghost use Rattle.up_engine.specs.declared.run.Run.{Run};
 ghost use Rattle.up_engine.specs.Stands.{RunMeans, Stands, left_of};
 ghost use Rattle.up_image.specs.Compiling.{Compiles};
 ghost use Rattle.up_image.specs.Definable.{IsTable};
-ghost use Rattle.up_isolation.specs.Isolation.{MeanTheSame};
+ghost use Rattle.up_isolation.specs.Runs.{deeds_of};
 ghost use Rattle.up_isolation.specs.Steps.{AreStepsOf, deeds_by_step, joined, orders_of, outputs_in};
-ghost use Rattle.up_isolation.specs.Views.{deeds, view};
 ghost use Rattle.up_model.specs.declared.input.Input.{Input};
 ghost use Rattle.up_model.specs.declared.input.Input.TheVariants.{Turn};
 ghost use Rattle.up_model.specs.declared.step.Step.TheVariants.{Gave};
@@ -54,25 +54,19 @@ pub fn idle_turns()
 /// In two runs of compiled folders in which the same comes to a job's notice, the job does the same: if the bases are equal and the
 /// folders define the job alike, or neither has it.
 pub fn isolation()
-    ensures { (files others : List File) (first second : Configuration) (report told : List Fault) (job : Bytes)
-        (inputs given : List Input)
-        → Compiles files first.jobs report → Compiles others second.jobs told → MeanTheSame job first second
-        → view job first (after_all first [] inputs) ≡ view job second (after_all second [] given)
-        → deeds job (after_all first [] inputs) ≡ deeds job (after_all second [] given) }
+    ensures { OfAlikeRuns (λ job first second inputs given. deeds_of job first inputs ≡ deeds_of job second given) }
 {}
 
-/// The same for the steps of two engines, neither of which ran out of memory: what the job does in each step is among the outputs
-/// of that step, in their order, and all that it does is the same in both runs. So are the starts and signals among the outputs
-/// that name the job.
+/// The same for the steps of engines, none of which ran out of memory: what a job does in each step is among the outputs of that step, in
+/// their order, and all that it does is the same in two such runs. So are the starts and signals among the outputs that name the job.
 pub fn isolated_runs()
-    ensures { (files others : List File) (first second : Configuration) (report told : List Fault) (job : Bytes)
-        (inputs given : List Input) (engine other : Engine) (run another : Run)
-        → Compiles files first.jobs report → Compiles others second.jobs told → MeanTheSame job first second
-        → view job first (after_all first [] inputs) ≡ view job second (after_all second [] given)
+    ensures steps { (job : Bytes) (config : Configuration) (inputs : List Input) (engine : Engine) (run : Run)
+        → RunMeans (Ok run) engine config [] inputs → run.down ≡ false
+        → AreStepsOf (deeds_by_step job config [] inputs) run.steps }
+    ensures deeds { OfAlikeRuns (λ job first second inputs given.
+        joined (deeds_by_step job first [] inputs) ≡ joined (deeds_by_step job second [] given)) }
+    ensures orders { OfAlikeRuns (λ job first second inputs given. (engine other : Engine) (run peer : Run)
         → RunMeans (Ok run) engine first [] inputs → run.down ≡ false
-        → RunMeans (Ok another) other second [] given → another.down ≡ false
-        → AreStepsOf (deeds_by_step job first [] inputs) run.steps
-        × AreStepsOf (deeds_by_step job second [] given) another.steps
-        × (joined (deeds_by_step job first [] inputs) ≡ joined (deeds_by_step job second [] given))
-        × (orders_of job (outputs_in run.steps) ≡ orders_of job (outputs_in another.steps)) }
+        → RunMeans (Ok peer) other second [] given → peer.down ≡ false
+        → orders_of job (outputs_in run.steps) ≡ orders_of job (outputs_in peer.steps)) }
 {}

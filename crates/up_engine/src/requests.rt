@@ -2,10 +2,10 @@
 ghost use Rattle.std.specs.Prelude.{option_map, ◌≡◌, ◌&&◌, ℕ, true, false, List, length, ◌∷◌, ◌++◌, map, Option, None, Some, if◌then◌else◌, IfOk, OnOk};
 ghost use Rattle.up_conf.specs.declared.job.JobDef.{JobDef as JobValue};
 ghost use Rattle.up_model.specs.declared.event_id.EventId.{EventId as EventIdValue};
-ghost use Rattle.up_book.specs.Keys.{job_at, Mode, Resting, Stepping, held_as, request_place, name_at, instance_place, given_place};
+ghost use Rattle.up_book.specs.Keys.{job_at, Mode, Resting, Stepping, held_as, name_at, instance_place, given_place};
 ghost use Rattle.up_engine.specs.Effects.{ActsOn, Concerns, IsCalled};
 ghost use Rattle.up_book.specs.Histories.{OfInstance};
-ghost use Rattle.up_engine.specs.Requests.{target_of as said_of, IsIndexed, Does, DoesBy, DoesTo, DoesToBy, ActsBy, RefusesStart, with_outcome};
+ghost use Rattle.up_engine.specs.Requests.{target_of as said_of, IsIndexed, Does, DoesBy, DoesTo, DoesToBy, ActsBy, IsAwaited, RefusesStart, Tells, start_named, with_outcome};
 ghost use Rattle.up_model.specs.declared.input.Input.{Input as InputValue};
 ghost use Rattle.up_model.specs.declared.input.Input.TheVariants as given_as;
 ghost use Rattle.up_model.specs.Chronicle.{Chronicle};
@@ -13,7 +13,6 @@ ghost use Rattle.up_model.specs.Chronicle as entry;
 ghost use Rattle.up_model.specs.Commands as model;
 ghost use Rattle.up_model.specs.Configuration.{Configuration};
 ghost use Rattle.up_model.specs.Due.{effect};
-ghost use Rattle.up_model.specs.Events.{with_instance};
 ghost use Rattle.up_model.specs.Files.{own_file};
 ghost use Rattle.up_model.specs.Instances.{instance_named};
 ghost use Rattle.up_model.specs.Readings as read;
@@ -136,7 +135,7 @@ fn start_who<B: Book>(
     ensures { OnOk result ((config : Configuration)
         → name_at config index ≡ Some who.now.job → job_at config index ≡ Some file.now
         → DoesBy holders (B.event_place book.old) (B.stands book.old Stepping) (B.stands book.new Stepping) config
-        (λ places d. model.start_at places file.now who.now (with_instance who.now environment) (instance_named who.now d) d)) }
+        (start_named file.now who.now environment)) }
 {
     match start_refusal(alloc, book, index, who)? {
         Some(text) => {
@@ -294,10 +293,8 @@ fn signal_and_reply<B: Book>(
     key: InstanceKey,
     signal: u8,
 ) -> Result<(), AllocError>
-    ensures { OnOk result ((config : Configuration) (c : Chronicle) (input : InputValue) (i : ℕ)
-        → B.stands book.old Stepping config (entry.Given input ∷ c)
-        → instance_place config (entry.Given input ∷ c) key ≡ Some i
-        → B.stands book.new Stepping config (model.reloading (length c) i signal ++ entry.Given input ∷ c)) }
+    ensures { OnOk result ((config : Configuration) → Tells key (B.stands book.old Stepping) (B.stands book.new Stepping) config
+        (λ i given. model.reloading given i signal)) }
 {
     let nothing = no_text(alloc);
     book.signal(key, signal)?;
@@ -501,7 +498,7 @@ fn change<B: Book>(
 ) -> Result<Concern, AllocError>
     ensures after { OnOk result ((c : Chronicle) (input : InputValue)
         → B.stands book.old Stepping setup.now (entry.Given input ∷ c)
-        → request_place (entry.Given input ∷ c) ≡ (if request.wait then Some (length c) else None)
+        → IsAwaited request.wait input c
         → B.stands book.new Stepping setup.now
         (with_outcome input (λ given. model.outcome_of setup.now given request) c)) }
     ensures concerns { IfOk result (λ concern. (c : Chronicle) (id : ℕ)

@@ -1,14 +1,14 @@
 //! The effect of the timer.
-ghost use Rattle.std.specs.Prelude.{◌≡◌, ℕ, false, List, ◌∷◌, ◌++◌, [], map, Some, IsOk, IfOk, OnOk};
-ghost use Rattle.up_book.specs.Keys.{name_at, Mode, Stepping, instance_place};
-ghost use Rattle.up_conf.specs.declared.job.JobDef.{JobDef as JobValue};
+ghost use Rattle.std.specs.Prelude.{◌≡◌, ℕ, false, List, ◌∷◌, ◌++◌, [], Some, IsOk, IfOk, OnOk};
+ghost use Rattle.up_book.specs.Histories.{OfFiled};
+ghost use Rattle.up_book.specs.Keys.{name_at, Mode, Stepping};
+ghost use Rattle.up_engine.specs.Found.{AreKeysOf};
 ghost use Rattle.up_model.specs.Chronicle.{Chronicle};
 ghost use Rattle.up_model.specs.Clock as clock;
 ghost use Rattle.up_model.specs.Configuration.{Configuration};
 ghost use Rattle.up_model.specs.Files.{names_in_order};
 ghost use Rattle.up_model.specs.Instances.{instances_of};
 ghost use Rattle.up_model.specs.Predicates.{entries_if};
-ghost use Rattle.up_model.specs.Readings as read;
 ghost use Rattle.up_model.specs.Values.{Bytes};
 
 use std::alloc::{AllocError, Global};
@@ -22,16 +22,11 @@ fn add_if_due<B: Book>(
     key: InstanceKey,
     keys: &mut Vec<InstanceKey>,
 ) -> Result<(), AllocError>
-    ensures after { OnOk result ((mode : Mode) (config : Configuration) (c : Chronicle) (i : ℕ) (job : JobValue) (done : List ℕ)
-        → B.stands book.now mode config c
-        → instance_place config c key ≡ Some i → read.file_of i c ≡ Some job
-        → map (instance_place config c) keys.old.items ≡ map Some done
-        → map (instance_place config c) keys.new.items
-        ≡ map Some (done ++ entries_if (clock.kill_due job i c) (i ∷ []))) }
-    ensures free { (mode : Mode) (config : Configuration) (c : Chronicle) (i : ℕ) (job : JobValue)
-        → B.stands book.now mode config c
-        → instance_place config c key ≡ Some i → read.file_of i c ≡ Some job
-        → clock.kill_due job i c ≡ false → IsOk result }
+    ensures after { OnOk result ((mode : Mode) (config : Configuration)
+        → OfFiled (B.stands book.now mode) config key (λ c i job. (done : List ℕ) → AreKeysOf config c keys.old.items done
+        → AreKeysOf config c keys.new.items (done ++ entries_if (clock.kill_due job i c) (i ∷ [])))) }
+    ensures free { (mode : Mode) (config : Configuration) → OfFiled (B.stands book.now mode) config key (λ c i job.
+        clock.kill_due job i c ≡ false → IsOk result) }
 {
     if book.is_overdue(key) {
         keys.push(key)?;
@@ -47,9 +42,8 @@ fn add_overdue<B: Book>(
 ) -> Result<(), AllocError>
     ensures after { OnOk result ((mode : Mode) (config : Configuration) (c : Chronicle) (name : Bytes) (done : List ℕ)
         → B.stands book.now mode config c → name_at config index ≡ Some name
-        → map (instance_place config c) keys.old.items ≡ map Some done
-        → map (instance_place config c) keys.new.items
-        ≡ map Some (done ++ clock.overdue (instances_of name c) c)) }
+        → AreKeysOf config c keys.old.items done
+        → AreKeysOf config c keys.new.items (done ++ clock.overdue (instances_of name c) c)) }
     ensures free { (mode : Mode) (config : Configuration) (c : Chronicle) (name : Bytes)
         → B.stands book.now mode config c → name_at config index ≡ Some name
         → clock.overdue (instances_of name c) c ≡ [] → IsOk result }
@@ -73,8 +67,7 @@ fn all_overdue<B: Book>(
 ) -> Result<Vec<InstanceKey>, AllocError>
     ensures after { IfOk result (λ keys. (mode : Mode) (config : Configuration) (c : Chronicle)
         → B.stands book.now mode config c → jobs.now ≡ config.jobs
-        → map (instance_place config c) keys.items
-        ≡ map Some (clock.all_overdue (names_in_order config c) c)) }
+        → AreKeysOf config c keys.items (clock.all_overdue (names_in_order config c) c)) }
     ensures free { (mode : Mode) (config : Configuration) (c : Chronicle)
         → B.stands book.now mode config c → jobs.now ≡ config.jobs
         → clock.all_overdue (names_in_order config c) c ≡ [] → IsOk result }
@@ -89,8 +82,7 @@ fn all_overdue<B: Book>(
 // Sends KILL to the main process of each of these.
 fn kill_each<B: Book>(book: &mut B, keys: &[InstanceKey]) -> Result<(), AllocError>
     ensures after { OnOk result ((config : Configuration) (c : Chronicle) (places : List ℕ)
-        → B.stands book.old Stepping config c
-        → map (instance_place config c) keys.now ≡ map Some places
+        → B.stands book.old Stepping config c → AreKeysOf config c keys.now places
         → B.stands book.new Stepping config (clock.killing places ++ c)) }
     ensures free { keys.now ≡ [] → IsOk result }
 {

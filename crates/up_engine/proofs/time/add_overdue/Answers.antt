@@ -24,7 +24,7 @@ loop-at-preserved g c mode config c' name done s named start =
     let one : List ℕ = entries_if (kill_due it.instance.file i c') (i ∷ []) in
     let left : overdue (drop n its) c' ≡ one ++ overdue (drop (n + 1) its) c' = rw add-one (ap (λ is. overdue is c') it.rest) in (
       old.0 ++ one,
-      c.in_ok-add_if_due.ensures.after mode config c' i it.instance.file old.0 s it.place file old.1,
+      c.in_ok-add_if_due.ensures.after mode config c' i it.instance.file s it.place file old.0 old.1,
       append_assoc old.0 one (overdue (drop (n + 1) its) c') ∙ ap (λ rest. old.0 ++ rest) (sym left) ∙ old.2,
     )
 
