@@ -62,6 +62,14 @@ fn look_end(count: usize, next: usize) -> usize
     next.saturating_add(LEAST_LOOKS.max(count.div_ceil(PARTS)))
 }
 
+fn look_at<P: OpenProcess>(child: &mut Child<P>) -> Look {
+    match child.try_wait() {
+        Ok(Some(status)) => Look::Ended(end_of(&status)),
+        Ok(None) => Look::Nothing,
+        Err(_) => Look::Failed,
+    }
+}
+
 /// Looks at some of the children from `next` on, up to one that has ended; the next look continues from there, and after the last child
 /// from the first. So one that ends is found by the sixth look at the latest, and a look takes little time even among many.
 pub(crate) fn find_end<P: OpenProcess>(children: &mut [Running<P>], next: &mut usize) -> Look
@@ -69,10 +77,10 @@ pub(crate) fn find_end<P: OpenProcess>(children: &mut [Running<P>], next: &mut u
 {
     let end = look_end(children.len(), *next);
     while *next < end && *next < children.len() {
-        match children[*next].child.try_wait() {
-            Ok(Some(status)) => return Look::Ended(end_of(&status)),
-            Ok(None) => *next += 1,
-            Err(_) => {
+        match look_at(&mut children[*next].child) {
+            Look::Ended(how) => return Look::Ended(how),
+            Look::Nothing => *next += 1,
+            Look::Failed => {
                 *next += 1;
                 return Look::Failed;
             }

@@ -61,12 +61,22 @@ fn refusal_of(error: &io::Error) -> SocketFault
     }
 }
 
-// Makes a socket at the path `inner`, and links it to `path` once no other user can connect.
+// Links a socket to `path` once no other user can connect.
+fn show(rt: &impl Files, inner: &str, path: &str) -> io::Result<()> {
+    set_permissions(rt, inner, Permissions::from_mode(0o600))?;
+    hard_link(rt, inner, path)
+}
+
+// Makes a socket at the path `inner`, and shows it at `path`.
 fn listen_inside<R: Files + Net>(rt: &R, inner: &str, path: &str) -> io::Result<UnixListener> {
     let listener = UnixListener::bind(rt, inner)?;
-    set_permissions(rt, inner, Permissions::from_mode(0o600))?;
-    hard_link(rt, inner, path)?;
-    Ok(listener)
+    match show(rt, inner, path) {
+        Ok(()) => Ok(listener),
+        Err(error) => {
+            drop(listener);
+            Err(error)
+        }
+    }
 }
 
 // Whether a path is a folder of this process's user that nobody else can enter.
@@ -97,11 +107,14 @@ fn is_deserted<R: Files + Net>(rt: &R, inner: &str) -> bool {
 fn make_folder(rt: &impl Files, folder: &str) -> io::Result<()> {
     let mut builder = DirBuilder::new();
     builder.mode(0o700);
-    match builder.create(rt, folder) {
-        Ok(()) => Ok(()),
-        Err(error) if error.kind() != ErrorKind::AlreadyExists => Err(error),
-        Err(_) if is_own_folder(rt, folder) => Ok(()),
-        Err(error) => Err(error),
+    let Err(error) = builder.create(rt, folder) else {
+        return Ok(());
+    };
+    if error.kind() == ErrorKind::AlreadyExists && is_own_folder(rt, folder) {
+        drop(error);
+        Ok(())
+    } else {
+        Err(error)
     }
 }
 

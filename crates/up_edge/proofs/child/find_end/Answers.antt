@@ -5,8 +5,8 @@ use Rattle.up_edge.proofs.child.find_end.Goals as goal
 pub loop-next-smaller : goal.loop-next-smaller
 loop-next-smaller c = omega arith
 
-pub returns-in-Err : goal.returns-in-Err
-returns-in-Err g c = omega (arith, c.loop-next.invariant)
+pub returns-in-Failed : goal.returns-in-Failed
+returns-in-Failed g c = omega (arith, c.loop-next.invariant)
 
 pub returns-else-next-children-2 : goal.returns-else-next-children-2
 returns-else-next-children-2 g c =
