@@ -1,5 +1,5 @@
 //! The children of a real host.
-ghost use Rattle.std.specs.Prelude.{◌≡◌, ◌<◌, length, true, IfSome, None};
+ghost use Rattle.std.specs.Prelude.{◌≡◌, ◌<◌, ◌≤◌, length, true, IfSome, None};
 ghost use Rattle.std.specs.Bool.{OnTrue};
 ghost use Rattle.std.specs.List.{All, HoldsAt};
 ghost use Rattle.up_edge.specs.Ends.{byte_of, end_of};
@@ -55,11 +55,21 @@ pub(crate) fn end_of(status: &ExitStatus) -> How
     }
 }
 
-// The end of a look that begins at `next`, exclusive: it covers a sixth of the children, but 16 at least.
+// The end of a look that begins at `next`, exclusive: it covers a sixth of the children, but 16 at least, if there are that many.
 fn look_end(count: usize, next: usize) -> usize
-    ensures { next < 18446744073709551615 → next < result }
+    ensures within { result ≤ count }
+    ensures further { next < count → next < result }
 {
-    next.saturating_add(LEAST_LOOKS.max(count.div_ceil(PARTS)))
+    let end = next.saturating_add(LEAST_LOOKS.max(count.div_ceil(PARTS)));
+    end.min(count)
+}
+
+fn look_at<P: OpenProcess>(child: &mut Child<P>) -> Look {
+    match child.try_wait() {
+        Ok(Some(status)) => Look::Ended(end_of(&status)),
+        Ok(None) => Look::Nothing,
+        Err(_) => Look::Failed,
+    }
 }
 
 /// Looks at some of the children from `next` on, up to one that has ended; the next look continues from there, and after the last child
@@ -68,11 +78,11 @@ pub(crate) fn find_end<P: OpenProcess>(children: &mut [Running<P>], next: &mut u
     ensures { LooksOn result next.old next.new (length children.old) }
 {
     let end = look_end(children.len(), *next);
-    while *next < end && *next < children.len() {
-        match children[*next].child.try_wait() {
-            Ok(Some(status)) => return Look::Ended(end_of(&status)),
-            Ok(None) => *next += 1,
-            Err(_) => {
+    while *next < end {
+        match look_at(&mut children[*next].child) {
+            Look::Ended(how) => return Look::Ended(how),
+            Look::Nothing => *next += 1,
+            Look::Failed => {
                 *next += 1;
                 return Look::Failed;
             }
@@ -102,6 +112,13 @@ fn is_same(one: &Who, other: &Who) -> bool
     one.job.as_str() == other.job.as_str() && one.instance.is(other.instance.as_str())
 }
 
+fn is_named<P: OpenProcess>(running: &Running<P>, who: &Who, pid: u32) -> bool
+    ensures same { OnTrue result ((running.now.who ≡ who.now) × (running.now.pid ≡ pid)) }
+    ensures differs { running.now.who ≡ who.now → running.now.pid ≡ pid → result ≡ true }
+{
+    running.pid == pid && is_same(&running.who, who)
+}
+
 pub(crate) fn place_of<P: OpenProcess>(
     children: &[Running<P>],
     who: &Who,
@@ -113,7 +130,7 @@ pub(crate) fn place_of<P: OpenProcess>(
     ensures none { result ≡ None → All (λ running. running.who ≡ who.now → running.pid ≡ pid → ⊥) children.now }
 {
     for (place, running) in children.iter().enumerate() {
-        if running.pid == pid && is_same(&running.who, who) {
+        if is_named(running, who, pid) {
             return Some(place);
         }
     }

@@ -1,5 +1,5 @@
 //! The command that starts an order's process.
-ghost use Rattle.std.specs.Prelude.{◌≡◌, ◌++◌, [], MatchOption, Some, IfOk, OnOk, map, option_map, true, List, ℕ};
+ghost use Rattle.std.specs.Prelude.{◌≡◌, ◌++◌, ◌∷◌, [], codes, MatchOption, Some, IfOk, OnOk, map, option_map, true, List, ℕ};
 ghost use Rattle.std.specs.Process.{command_program, command_args, command_var, command_dir, clears_env, SameProgramAndArgs, SameEnv, SameDir, SameOtherVars};
 ghost use Rattle.up_text.specs.Bindings.{value_of};
 ghost use Rattle.up_edge.specs.Commands.{HasEnv, IsCommandOf, IsKill, kill_words};
@@ -26,8 +26,10 @@ fn set_var(command: &mut Command, key: &str, value: &str) -> Result<(), AllocErr
     ensures words { OnOk result (SameProgramAndArgs command.old command.new) }
     ensures dir { OnOk result (SameDir command.old command.new) }
 {
-    command.env(key, value)?;
-    Ok(())
+    match command.env(key, value) {
+        Ok(_) => Ok(()),
+        Err(error) => Err(error),
+    }
 }
 
 // Sets the pairs, and no other variable. A key that occurs twice keeps its first value, so the last pair is set first.
@@ -90,16 +92,26 @@ pub(crate) fn command_of(alloc: Global, order: &Order) -> Result<Option<Command>
     }
 }
 
-// The arguments with which a shell sends a signal by its name (kill(1)), without any output.
+// The arguments with which a shell runs a line, without any output.
+fn fill_shell(command: &mut Command, line: &str) -> Result<(), AllocError>
+    ensures words { OnOk result (command_args command.new ≡ command_args command.old ++ codes "-c" ∷ line.now ∷ []) }
+    ensures program { OnOk result (command_program command.new ≡ command_program command.old) }
+{
+    command.arg("-c")?;
+    command.arg(line)?;
+    set_streams(command, true);
+    Ok(())
+}
+
+// The arguments with which a shell sends a signal by its name (kill(1)).
 fn fill_kill(alloc: Global, command: &mut Command, name: &str, pid: u32) -> Result<(), AllocError>
     ensures words { OnOk result (command_args command.new ≡ command_args command.old ++ kill_words name.now pid) }
     ensures program { OnOk result (command_program command.new ≡ command_program command.old) }
 {
     let line = format!(in alloc; "kill -s {name} {pid}")?;
-    command.arg("-c")?;
-    command.arg(line.as_str())?;
-    set_streams(command, true);
-    Ok(())
+    let filled = fill_shell(command, line.as_str());
+    drop(line);
+    filled
 }
 
 /// The command that sends a signal by its name.

@@ -1,7 +1,7 @@
 //! The calls of a door that may fail.
 
 /// A call of a door.
-#[derive(Clone, Copy, Debug, PartialEq, Eq)]
+#[derive(Clone, Copy, PartialEq, Eq)]
 pub enum DoorCall {
     Accept,
     Read,

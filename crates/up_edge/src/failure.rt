@@ -4,7 +4,7 @@ ghost use Rattle.std.specs.List.{list_any};
 ghost use Rattle.up_edge.specs.Failing.{is_failing, fails, call_after};
 
 /// Calls that fail, by their number, counted from 0.
-#[derive(Clone, Copy, Debug)]
+#[derive(Clone, Copy)]
 pub enum Failure {
     /// This call alone.
     Once(u64),

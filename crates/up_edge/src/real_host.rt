@@ -2,8 +2,11 @@
 ghost use Rattle.std.specs.Prelude.{◌≡◌, ◌⊎◌, ◌+◌, ◌<◌, ◌++◌, ◌∷◌, ℕ, List, [], length, Some, None, IfSome, IfOk, if◌then◌else◌, is_some, option_map, take, vec_len, vec_capacity};
 ghost use Rattle.std.specs.Bool.{OnTrue};
 ghost use Rattle.std.specs.List.{HoldsAt, swap_remove};
-ghost use Rattle.up_edge.specs.Calls.{no_calls, with_failure};
+ghost use Rattle.up_edge.specs.Calls.{Reports, no_calls, with_failure};
 ghost use Rattle.up_edge.specs.Journals.{calls_of, HasRoom};
+ghost use Rattle.up_edge.specs.Living.{LivesAfterPoll};
+ghost use Rattle.up_edge.specs.Looking.{LooksOn};
+ghost use Rattle.up_edge.specs.declared.happened.Happened.TheVariants.{Polled};
 
 use crate::child::{Look, Running, find_end, place_of, reap};
 use crate::command::{command_of, kill_command};
@@ -195,6 +198,31 @@ impl<R: Processes> RealHost<R> {
         Some(((told, process, how), (who, process, how)))
     }
 
+    // Looks at some of the children.
+    fn look(&mut self) -> Look
+        ensures looks { LooksOn result self.old.next self.new.next (length self.old.children.items) }
+        ensures children { length self.new.children.items ≡ length self.old.children.items }
+        ensures journal { self.new.journal ≡ self.old.journal }
+    {
+        find_end(&mut self.children, &mut self.next)
+    }
+
+    // Reports the end of the child where the next look begins. If out of memory for it, the call failed, and the child stays.
+    fn report_end(&mut self, how: How) -> Result<Option<End>, HostFault>
+        requires room { HasRoom self.old.journal }
+        requires child { self.old.next < length self.old.children.items }
+        ensures reports { Reports Polled (calls_of self.old.journal) result (calls_of self.new.journal) }
+        ensures lives { LivesAfterPoll (length self.old.children.items) result (length self.new.children.items) }
+    {
+        match self.take_end(self.next, how) {
+            Some((told, end)) => {
+                self.journal.add(Happened::Polled(Some(told)));
+                Ok(Some(end))
+            }
+            None => Err(self.fail_call()),
+        }
+    }
+
     // Sends a signal to the child with this name and process number. False if that failed.
     fn send(&mut self, who: &Who, pid: u32, signal: u8) -> bool
         ensures sent { OnTrue result ((place : ℕ) × HoldsAt (λ running. (running.who ≡ who.now)
@@ -202,20 +230,21 @@ impl<R: Processes> RealHost<R> {
         ensures children { length self.new.children.items ≡ length self.old.children.items }
         ensures journal { self.new.journal ≡ self.old.journal }
     {
-        let Some(place) = place_of(self.children.as_slice(), who, pid) else {
-            return false;
-        };
-        if signal == KILL {
-            return self.children[place].child.kill().is_ok();
+        match place_of(self.children.as_slice(), who, pid) {
+            Some(place) => self.send_to(place, pid, signal),
+            None => false,
         }
-        self.send_by_shell(pid, signal)
     }
 
-    // Sends a signal by a helper. False if that failed.
-    fn send_by_shell(&mut self, pid: u32, signal: u8) -> bool
+    // Sends a signal to the child at a place, any but KILL by a helper. False if that failed.
+    fn send_to(&mut self, place: usize, pid: u32, signal: u8) -> bool
+        requires { place < length self.old.children.items }
         ensures children { length self.new.children.items ≡ length self.old.children.items }
         ensures journal { self.new.journal ≡ self.old.journal }
     {
+        if signal == KILL {
+            return self.children[place].child.kill().is_ok();
+        }
         if self.helpers.reserve(1).is_err() {
             return false;
         }
@@ -271,14 +300,8 @@ impl<R: Processes + Clock> Host for RealHost<R> {
         if !self.journal.make_room() {
             return Err(self.fail_call());
         }
-        match find_end(&mut self.children, &mut self.next) {
-            Look::Ended(how) => match self.take_end(self.next, how) {
-                Some((told, end)) => {
-                    self.journal.add(Happened::Polled(Some(told)));
-                    Ok(Some(end))
-                }
-                None => Err(self.fail_call()),
-            },
+        match self.look() {
+            Look::Ended(how) => self.report_end(how),
             Look::Nothing => {
                 reap(&mut self.helpers);
                 self.journal.add(Happened::Polled(None));

@@ -4,33 +4,42 @@ ghost use Rattle.up_edge.specs.Sockets.{path_refusal, IsOfSystem};
 
 use mio::net::UnixListener;
 use std::alloc::Global;
+use std::error::Error;
 use std::fs::{
     DirBuilder, File, Files, Permissions, TryLockError, hard_link, metadata, remove_dir,
     remove_file, set_permissions, symlink_metadata,
 };
-use std::io;
 use std::io::ErrorKind;
 use std::net::Net;
 use std::os::unix::fs::{DirBuilderExt, FileTypeExt, MetadataExt, PermissionsExt};
 use std::os::unix::net::UnixStream;
-use thiserror::Error;
+use std::{fmt, io};
 
 /// Why a socket can't be made.
-#[derive(Clone, Copy, Debug, PartialEq, Eq, Error)]
+#[derive(Clone, Copy, Debug, PartialEq, Eq)]
 pub enum SocketFault {
-    #[error("the socket's path is empty")]
     Empty,
-    #[error("the socket's path is too long")]
     TooLong,
     /// There is something at the path, or at `PATH.new` something that isn't the folder of a start that was ended.
-    #[error("the socket exists")]
     Exists,
-    #[error("no memory is left")]
     Memory,
     /// The system refused it with an error of this kind.
-    #[error("the socket's path can't be used")]
     Unusable(ErrorKind),
 }
+
+impl fmt::Display for SocketFault {
+    fn fmt<W: fmt::Write>(&self, f: &mut fmt::Formatter<W>) -> fmt::Result {
+        f.write_str(match self {
+            SocketFault::Empty => "the socket's path is empty",
+            SocketFault::TooLong => "the socket's path is too long",
+            SocketFault::Exists => "the socket exists",
+            SocketFault::Memory => "no memory is left",
+            SocketFault::Unusable(_) => "the socket's path can't be used",
+        })
+    }
+}
+
+impl Error for SocketFault {}
 
 /// The maximum length of a path in bytes: the system allows 107 (unix(7)), and the socket is made six bytes below it.
 const MOST_PATH: usize = 101;
@@ -61,12 +70,22 @@ fn refusal_of(error: &io::Error) -> SocketFault
     }
 }
 
-// Makes a socket at the path `inner`, and links it to `path` once no other user can connect.
+// Links a socket to `path` once no other user can connect.
+fn show(rt: &impl Files, inner: &str, path: &str) -> io::Result<()> {
+    set_permissions(rt, inner, Permissions::from_mode(0o600))?;
+    hard_link(rt, inner, path)
+}
+
+// Makes a socket at the path `inner`, and shows it at `path`.
 fn listen_inside<R: Files + Net>(rt: &R, inner: &str, path: &str) -> io::Result<UnixListener> {
     let listener = UnixListener::bind(rt, inner)?;
-    set_permissions(rt, inner, Permissions::from_mode(0o600))?;
-    hard_link(rt, inner, path)?;
-    Ok(listener)
+    match show(rt, inner, path) {
+        Ok(()) => Ok(listener),
+        Err(error) => {
+            drop(listener);
+            Err(error)
+        }
+    }
 }
 
 // Whether a path is a folder of this process's user that nobody else can enter.
@@ -97,11 +116,14 @@ fn is_deserted<R: Files + Net>(rt: &R, inner: &str) -> bool {
 fn make_folder(rt: &impl Files, folder: &str) -> io::Result<()> {
     let mut builder = DirBuilder::new();
     builder.mode(0o700);
-    match builder.create(rt, folder) {
-        Ok(()) => Ok(()),
-        Err(error) if error.kind() != ErrorKind::AlreadyExists => Err(error),
-        Err(_) if is_own_folder(rt, folder) => Ok(()),
-        Err(error) => Err(error),
+    let Err(error) = builder.create(rt, folder) else {
+        return Ok(());
+    };
+    if error.kind() == ErrorKind::AlreadyExists && is_own_folder(rt, folder) {
+        drop(error);
+        Ok(())
+    } else {
+        Err(error)
     }
 }
 

@@ -47,15 +47,23 @@ pub fn report_load(
     ensures reports { Reports (λ loaded. loaded) (calls_of journal.old) result (calls_of journal.new) }
     ensures found { IfOk result (λ loaded. found ≡ Some loaded) }
 {
-    let Some(loaded) = found else {
-        return Err(fail_load(journal));
-    };
-    let Ok(told) = loaded.copy(alloc) else {
-        return Err(fail_load(journal));
-    };
-    if !journal.make_room() {
-        return Err(fail_load(journal));
+    match found {
+        Some(loaded) => match loaded.copy(alloc) {
+            Ok(told) => {
+                if journal.make_room() {
+                    journal.add(told);
+                    Ok(loaded)
+                } else {
+                    drop(told);
+                    drop(loaded);
+                    Err(fail_load(journal))
+                }
+            }
+            Err(_) => {
+                drop(loaded);
+                Err(fail_load(journal))
+            }
+        },
+        None => Err(fail_load(journal)),
     }
-    journal.add(told);
-    Ok(loaded)
 }

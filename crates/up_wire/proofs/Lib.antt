@@ -1,3 +1,4 @@
+pub mod Adding
 pub mod Bindings
 pub mod Chunks
 pub mod Counts

@@ -1,5 +1,5 @@
 //! Reads the fields of a payload.
-ghost use Rattle.std.specs.Prelude.{◌≡◌, option_map};
+ghost use Rattle.std.specs.Prelude.{◌≡◌, [], option_map};
 ghost use Rattle.up_model.specs.Values.{Bytes};
 ghost use Rattle.up_wire.specs.Fields.{Reads, byte_at, number_at, text_at, with_variable, if_request, variable_at, variables_at, command_of, wait_of, about_at, request_in};
 
@@ -107,6 +107,28 @@ fn variables_at<'a>(vars: &mut Env, count: u16, bytes: &'a [u8]) -> Result<&'a [
     Ok(rest)
 }
 
+fn whole(
+    alloc: Global,
+    command: Command,
+    wait: bool,
+    name: &str,
+    vars: Env,
+) -> Result<Request, WireFault>
+    ensures { Reads (λ x. x) result (if_request command wait name.now (vars, [])) }
+{
+    match Text::from_str(alloc, name) {
+        Ok(name) => match Request::new(command, wait, name, vars) {
+            Some(request) => Ok(request),
+            None => Err(WireFault::BadFrame),
+        },
+        Err(refused) => {
+            drop(vars);
+            Err(WireFault::from(refused))
+        }
+    }
+}
+
+// The request of these parts, if they are one and nothing follows them.
 fn request_of(
     alloc: Global,
     command: Command,
@@ -117,13 +139,11 @@ fn request_of(
 ) -> Result<Request, WireFault>
     ensures { Reads (λ x. x) result (if_request command wait name.now (vars, rest.now)) }
 {
-    if !rest.is_empty() {
-        return Err(WireFault::BadFrame);
-    }
-    let name = Text::from_str(alloc, name)?;
-    match Request::new(command, wait, name, vars) {
-        Some(request) => Ok(request),
-        None => Err(WireFault::BadFrame),
+    if rest.is_empty() {
+        whole(alloc, command, wait, name, vars)
+    } else {
+        drop(vars);
+        Err(WireFault::BadFrame)
     }
 }
 

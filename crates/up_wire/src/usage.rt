@@ -1,16 +1,48 @@
 //! The command line of `initctl`.
-ghost use Rattle.std.specs.Prelude.{◌≡◌, [], ◌∷◌, false, IfOk, IfErr};
+ghost use Rattle.std.specs.Prelude.{◌≡◌, false, IfOk};
 ghost use Rattle.clap.specs.Words.{App, new_app, rule_of, with_subcommand};
-ghost use Rattle.up_model.specs.declared.request.Command.TheVariants as asked;
-ghost use Rattle.up_wire.specs.Usage.{name_rule, words_rule, no_wait_rule, about_app, waiting_app, program_app, with_commands, usage, IsUsage};
+ghost use Rattle.up_model.specs.Requests.{command_name};
+ghost use Rattle.up_wire.specs.Usage.{name_rule, words_rule, no_wait_rule, about_app, waiting_app, command_app, program_app, usage, IsUsage};
 
 use clap::{Arg, ArgAction, Command};
 use std::alloc::{AllocError, Global};
+use up_model::Command as Asked;
 
-fn subject<'a>(alloc: Global, what: &'a str) -> Arg<'a>
+/// The commands, in the order in which help lists them.
+static COMMANDS: [Asked; 9] = [
+    Asked::Start,
+    Asked::Stop,
+    Asked::Restart,
+    Asked::Status,
+    Asked::Reload,
+    Asked::Emit,
+    Asked::List,
+    Asked::ReloadConfiguration,
+    Asked::Version,
+];
+
+fn help_of(its: Asked) -> &'static str {
+    match its {
+        Asked::Start => "Starts an instance of a job",
+        Asked::Stop => "Stops an instance of a job",
+        Asked::Restart => "Stops an instance of a job and starts it again",
+        Asked::Status => "Prints the status of an instance of a job",
+        Asked::Reload => "Sends main of an instance of a job its reload signal",
+        Asked::Emit => "Emits an event",
+        Asked::List => "Prints the status of every job",
+        Asked::ReloadConfiguration => "Reads the job files again; not supported yet",
+        Asked::Version => "Prints the version of the init",
+    }
+}
+
+fn subject<'a>(alloc: Global, its: Asked) -> Arg<'a>
     ensures rule { rule_of result ≡ name_rule }
     ensures local { result.global ≡ false }
 {
+    let what = match its {
+        Asked::Emit => "EVENT",
+        _ => "JOB",
+    };
     Arg::new(alloc, "NAME")
         .value_name(what)
         .help("Its name")
@@ -39,38 +71,41 @@ fn no_wait<'a>(alloc: Global) -> Arg<'a>
         .action(ArgAction::SetTrue)
 }
 
-// A command about a job or an event, with variables.
-fn about<'a>(
-    alloc: Global,
-    name: &'a str,
-    what: &'a str,
-    help: &'a str,
-) -> Result<Command<'a>, AllocError>
-    ensures { IfOk result (IsUsage (about_app name.entry.now)) }
+// A command without arguments.
+fn alone<'a>(alloc: Global, its: Asked) -> Command<'a>
+    ensures { IsUsage (new_app (command_name its)) result }
 {
-    Command::new(alloc, name)
-        .about(help)
-        .arg(subject(alloc, what))?
+    let name: &'a str = its.name();
+    let help: &'a str = help_of(its);
+    Command::new(alloc, name).about(help)
+}
+
+// A command about a job or an event, with variables.
+fn about<'a>(alloc: Global, its: Asked) -> Result<Command<'a>, AllocError>
+    ensures { IfOk result (IsUsage (about_app (command_name its))) }
+{
+    alone(alloc, its)
+        .arg(subject(alloc, its))?
         .arg(variables(alloc))
 }
 
 // The same, with the option `--no-wait`.
-fn waiting<'a>(
-    alloc: Global,
-    name: &'a str,
-    what: &'a str,
-    help: &'a str,
-) -> Result<Command<'a>, AllocError>
-    ensures { IfOk result (IsUsage (waiting_app name.entry.now)) }
+fn waiting<'a>(alloc: Global, its: Asked) -> Result<Command<'a>, AllocError>
+    ensures { IfOk result (IsUsage (waiting_app (command_name its))) }
 {
-    about(alloc, name, what, help)?.arg(no_wait(alloc))
+    about(alloc, its)?.arg(no_wait(alloc))
 }
 
-// A command without arguments.
-fn alone<'a>(alloc: Global, name: &'a str, help: &'a str) -> Command<'a>
-    ensures { IsUsage (new_app name.entry.now) result }
+fn command_of<'a>(alloc: Global, its: Asked) -> Result<Command<'a>, AllocError>
+    ensures { IfOk result (IsUsage (command_app its)) }
 {
-    Command::new(alloc, name).about(help)
+    if its.is_alone() {
+        Ok(alone(alloc, its))
+    } else if its.may_wait() {
+        waiting(alloc, its)
+    } else {
+        about(alloc, its)
+    }
 }
 
 // Adds a command to a command line.
@@ -98,88 +133,6 @@ fn add<'a>(
     }
 }
 
-fn add_about<'a>(
-    alloc: Global,
-    line: Command<'a>,
-    name: &'a str,
-    help: &'a str,
-) -> Result<Command<'a>, AllocError>
-    ensures { (app : App) → IsUsage app line.entry
-        → IfOk result (IsUsage (with_subcommand app (about_app name.entry.now).top)) }
-{
-    add(line, about(alloc, name, "JOB", help))
-}
-
-fn add_waiting<'a>(
-    alloc: Global,
-    line: Command<'a>,
-    name: &'a str,
-    what: &'a str,
-    help: &'a str,
-) -> Result<Command<'a>, AllocError>
-    ensures { (app : App) → IsUsage app line.entry
-        → IfOk result (IsUsage (with_subcommand app (waiting_app name.entry.now).top)) }
-{
-    add(line, waiting(alloc, name, what, help))
-}
-
-fn add_alone<'a>(
-    alloc: Global,
-    line: Command<'a>,
-    name: &'a str,
-    help: &'a str,
-) -> Result<Command<'a>, AllocError>
-    ensures { (app : App) → IsUsage app line.entry
-        → IfOk result (IsUsage (with_subcommand app (new_app name.entry.now).top)) }
-{
-    join(line, alone(alloc, name, help))
-}
-
-// Only the line is owned at a `?`: a command there would be dropped field by field at each.
-fn job_commands<'a>(alloc: Global, line: Command<'a>) -> Result<Command<'a>, AllocError>
-    ensures { (app : App) → IsUsage app line.entry
-        → IfOk result (IsUsage (with_commands app (asked.Start ∷ asked.Stop ∷ asked.Restart ∷ asked.Status
-        ∷ asked.Reload ∷ []))) }
-{
-    let line = add_waiting(alloc, line, "start", "JOB", "Starts an instance of a job")?;
-    let line = add_waiting(alloc, line, "stop", "JOB", "Stops an instance of a job")?;
-    let line = add_waiting(
-        alloc,
-        line,
-        "restart",
-        "JOB",
-        "Stops an instance of a job and starts it again",
-    )?;
-    let line = add_about(
-        alloc,
-        line,
-        "status",
-        "Prints the status of an instance of a job",
-    )?;
-    add_about(
-        alloc,
-        line,
-        "reload",
-        "Sends main of an instance of a job its reload signal",
-    )
-}
-
-fn other_commands<'a>(alloc: Global, line: Command<'a>) -> Result<Command<'a>, AllocError>
-    ensures { (app : App) → IsUsage app line.entry
-        → IfOk result (IsUsage (with_commands app (asked.Emit ∷ asked.List ∷ asked.ReloadConfiguration
-        ∷ asked.Version ∷ []))) }
-{
-    let line = add_waiting(alloc, line, "emit", "EVENT", "Emits an event")?;
-    let line = add_alone(alloc, line, "list", "Prints the status of every job")?;
-    let line = add_alone(
-        alloc,
-        line,
-        "reload-configuration",
-        "Reads the job files again; not supported yet",
-    )?;
-    add_alone(alloc, line, "version", "Prints the version of the init")
-}
-
 fn program<'a>(alloc: Global) -> Command<'a>
     ensures { IsUsage program_app result }
 {
@@ -193,7 +146,9 @@ fn program<'a>(alloc: Global) -> Command<'a>
 pub fn command_line<'a>(alloc: Global) -> Result<Command<'a>, AllocError>
     ensures { IfOk result (IsUsage usage) }
 {
-    let line = job_commands(alloc, program(alloc))?;
-    let line = other_commands(alloc, line)?;
+    let mut line = program(alloc);
+    for its in &COMMANDS {
+        line = add(line, command_of(alloc, *its))?;
+    }
     Ok(line)
 }
