@@ -4,42 +4,33 @@ ghost use Rattle.up_edge.specs.Sockets.{path_refusal, IsOfSystem};
 
 use mio::net::UnixListener;
 use std::alloc::Global;
-use std::error::Error;
 use std::fs::{
     DirBuilder, File, Files, Permissions, TryLockError, hard_link, metadata, remove_dir,
     remove_file, set_permissions, symlink_metadata,
 };
+use std::io;
 use std::io::ErrorKind;
 use std::net::Net;
 use std::os::unix::fs::{DirBuilderExt, FileTypeExt, MetadataExt, PermissionsExt};
 use std::os::unix::net::UnixStream;
-use std::{fmt, io};
+use thiserror::Error;
 
 /// Why a socket can't be made.
-#[derive(Clone, Copy, Debug, PartialEq, Eq)]
+#[derive(Clone, Copy, Debug, PartialEq, Eq, Error)]
 pub enum SocketFault {
+    #[error("the socket's path is empty")]
     Empty,
+    #[error("the socket's path is too long")]
     TooLong,
     /// There is something at the path, or at `PATH.new` something that isn't the folder of a start that was ended.
+    #[error("the socket exists")]
     Exists,
+    #[error("no memory is left")]
     Memory,
     /// The system refused it with an error of this kind.
+    #[error("the socket's path can't be used")]
     Unusable(ErrorKind),
 }
-
-impl fmt::Display for SocketFault {
-    fn fmt<W: fmt::Write>(&self, f: &mut fmt::Formatter<W>) -> fmt::Result {
-        f.write_str(match self {
-            SocketFault::Empty => "the socket's path is empty",
-            SocketFault::TooLong => "the socket's path is too long",
-            SocketFault::Exists => "the socket exists",
-            SocketFault::Memory => "no memory is left",
-            SocketFault::Unusable(_) => "the socket's path can't be used",
-        })
-    }
-}
-
-impl Error for SocketFault {}
 
 /// The maximum length of a path in bytes: the system allows 107 (unix(7)), and the socket is made six bytes below it.
 const MOST_PATH: usize = 101;

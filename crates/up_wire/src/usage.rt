@@ -30,7 +30,7 @@ fn help_of(its: Asked) -> &'static str {
         Asked::Reload => "Sends main of an instance of a job its reload signal",
         Asked::Emit => "Emits an event",
         Asked::List => "Prints the status of every job",
-        Asked::ReloadConfiguration => "Reads the job files again; not supported yet",
+        Asked::ReloadConfiguration => "Reads the job files again",
         Asked::Version => "Prints the version of the init",
     }
 }
