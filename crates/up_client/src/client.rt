@@ -1,11 +1,11 @@
 //! The client: its command line, its socket, its output and its exit status.
-ghost use Rattle.std.specs.Prelude.{◌≡◌, ◌⊎◌, [], true, false, None, IfOk, IfErr};
+ghost use Rattle.std.specs.Prelude.{◌≡◌, [], true, false, None, Ok, Err, IfOk, alloc_error};
 ghost use Rattle.clap.specs.Words.{kind_of, rule_of, subcommand_rows_of};
 ghost use Rattle.up_model.specs.declared.exit_status.ExitStatus.TheVariants as status;
 ghost use Rattle.up_wire.specs.Usage.{IsUsage};
 ghost use Rattle.up_wire.specs.Words.{request_matched};
 ghost use Rattle.up_client.specs.Asking.{IsSent};
-ghost use Rattle.up_client.specs.Statuses.{IsOutcome, IsAnswered, IsStatus};
+ghost use Rattle.up_client.specs.Statuses.{IsEnd, IsOutcome, IsStatus};
 ghost use Rattle.up_client.specs.Usage.{client_usage, socket_rule};
 
 use crate::talk::{TalkFault, talk};
@@ -75,20 +75,23 @@ fn print_fault<R: Print + Eprint + AllocGlobal>(rt: &R, error: &Error) -> io::Re
 }
 
 // Prints why a command line is invalid, or the help that it asks for.
-fn print_refusal<R: Print + Eprint + AllocGlobal>(rt: &R, error: &Error) -> ExitStatus
-    ensures status { IsStatus result }
-    ensures memory { kind_of error.now ≡ ErrorKind.OutOfMemory → result ≡ status.Memory }
-    ensures usage { kind_of error.now ≡ ErrorKind.MissingRequiredArgument → result ≡ status.Usage }
+fn print_refusal<R: Print + Eprint + AllocGlobal>(
+    rt: &R,
+    error: &Error,
+) -> Result<ExitStatus, AllocError>
+    ensures status { IfOk result IsEnd }
+    ensures memory { kind_of error.now ≡ ErrorKind.OutOfMemory → result ≡ Err alloc_error }
+    ensures usage { kind_of error.now ≡ ErrorKind.MissingRequiredArgument → result ≡ Ok status.Usage }
 {
     match error.kind() {
-        ErrorKind::OutOfMemory => ExitStatus::Memory,
+        ErrorKind::OutOfMemory => Err(AllocError),
         ErrorKind::DisplayHelp | ErrorKind::DisplayVersion => match error.print(rt) {
-            Ok(()) => ExitStatus::Done,
-            Err(_) => ExitStatus::Failed,
+            Ok(()) => Ok(ExitStatus::Done),
+            Err(_) => Ok(ExitStatus::Failed),
         },
         _ => {
             let _ = print_fault(rt, error);
-            ExitStatus::Usage
+            Ok(ExitStatus::Usage)
         }
     }
 }
@@ -128,16 +131,21 @@ pub fn frame_of(alloc: Global, matches: &ArgMatches) -> Result<Vec<u8>, WireFaul
     Ok(frame)
 }
 
-fn ask<R: Net + Print + Eprint>(rt: &R, alloc: Global, socket: &str, frame: &[u8]) -> ExitStatus
-    ensures { IsAnswered result }
+fn ask<R: Net + Print + Eprint>(
+    rt: &R,
+    alloc: Global,
+    socket: &str,
+    frame: &[u8],
+) -> Result<ExitStatus, AllocError>
+    ensures { IfOk result IsOutcome }
 {
     let Ok(mut stream) = UnixStream::connect(rt, socket) else {
-        return fail(rt, "Unable to connect");
+        return Ok(fail(rt, "Unable to connect"));
     };
     match talk(alloc, &mut stream, frame) {
-        Ok(answer) => print_answer(rt, &answer),
-        Err(TalkFault::Lost) => fail(rt, "Connection lost"),
-        Err(TalkFault::Memory) => ExitStatus::Memory,
+        Ok(answer) => Ok(print_answer(rt, &answer)),
+        Err(TalkFault::Lost) => Ok(fail(rt, "Connection lost")),
+        Err(TalkFault::Memory) => Err(AllocError),
     }
 }
 
@@ -178,16 +186,16 @@ fn send_request<R: Net + Print + Eprint>(
     alloc: Global,
     socket: &str,
     matches: &ArgMatches,
-) -> ExitStatus
-    ensures status { IsAnswered result }
-    ensures bad { request_matched (subcommand_rows_of matches.now) ≡ None → (result ≡ status.Failed)
-        ⊎ (result ≡ status.Memory) }
+) -> Result<ExitStatus, AllocError>
+    ensures status { IfOk result IsOutcome }
+    ensures bad { request_matched (subcommand_rows_of matches.now) ≡ None
+        → IfOk result (λ ends. ends ≡ status.Failed) }
 {
     match frame_of(alloc, matches) {
         Ok(frame) => ask(rt, alloc, socket, &frame),
-        Err(WireFault::Memory) => ExitStatus::Memory,
-        Err(WireFault::FrameTooLarge) => fail(rt, "Request too large"),
-        Err(_) => refuse_word(rt, bad_word(alloc, matches)),
+        Err(WireFault::Memory) => Err(AllocError),
+        Err(WireFault::FrameTooLarge) => Ok(fail(rt, "Request too large")),
+        Err(_) => Ok(refuse_word(rt, bad_word(alloc, matches))),
     }
 }
 
@@ -200,16 +208,17 @@ fn print_profile<R: Print>(rt: &R) -> ExitStatus
     }
 }
 
-/// Runs the command of these words, the program's name first, and returns the exit status.
-pub fn run<R: Net + Print + Eprint + Env + AllocGlobal>(rt: &R, words: &[String]) -> ExitStatus
-    ensures { IsStatus result }
+// Runs the command of these words.
+fn run_command<R: Net + Print + Eprint + Env + AllocGlobal>(
+    rt: &R,
+    words: &[String],
+) -> Result<ExitStatus, AllocError>
+    ensures { IfOk result IsEnd }
 {
     if words.len() <= 1 {
-        return print_profile(rt);
+        return Ok(print_profile(rt));
     }
-    let Ok(mut command) = with_socket(rt.alloc()) else {
-        return ExitStatus::Memory;
-    };
+    let mut command = with_socket(rt.alloc())?;
     let matches = match command.try_get_matches_from_mut(words) {
         Ok(matches) => matches,
         Err(error) => return print_refusal(rt, &error),
@@ -220,5 +229,15 @@ pub fn run<R: Net + Print + Eprint + Env + AllocGlobal>(rt: &R, words: &[String]
     match env::var(rt, "INITCTL_SOCKET") {
         Ok(socket) => send_request(rt, rt.alloc(), socket.as_str(), &matches),
         Err(_) => send_request(rt, rt.alloc(), DEFAULT_SOCKET, &matches),
+    }
+}
+
+/// Runs the command of these words, the program's name first, and returns the exit status.
+pub fn run<R: Net + Print + Eprint + Env + AllocGlobal>(rt: &R, words: &[String]) -> ExitStatus
+    ensures { IsStatus result }
+{
+    match run_command(rt, words) {
+        Ok(status) => status,
+        Err(_) => ExitStatus::Memory,
     }
 }

@@ -1,5 +1,5 @@
 //! Checks and replays folders on the disk.
-ghost use Rattle.std.specs.Prelude.{◌≡◌, ◌≤◌, ◌⊎◌, IfOk, IfSome, length};
+ghost use Rattle.std.specs.Prelude.{◌≤◌, ◌⊎◌, IfOk, IfSome, length};
 ghost use Rattle.up_disk.specs.Disk.{ChecksDir, ExplainsDir, GraphsDir, PlaysDir, PlaysFile, PlaysFiles, PlaysOver, IsUnusable};
 ghost use Rattle.up_disk.specs.Walk.{IsWalked};
 ghost use Rattle.up_script.specs.declared.bundle.TheConstants.{MAX_BUNDLE};

@@ -1,5 +1,5 @@
 //! Images of tables on the disk: writes the image of a folder, and prints the job files that an image contains.
-ghost use Rattle.std.specs.Prelude.{◌≡◌, ◌+◌, ◌≤◌, Decides, IfOk, IfSome, length, option_map};
+ghost use Rattle.std.specs.Prelude.{◌+◌, ◌≤◌, Decides, IfOk, IfSome, length, option_map};
 ghost use Rattle.up_disk.specs.Disk.{CompilesDir, Defines, DefinesAll, DefinesImage, IsUnusable, KeepsBundle, ShowsBytes, ShowsFile, ShowsTable, StoresFiles, StoresTable};
 ghost use Rattle.up_disk.specs.Walk.{IsWalked};
 ghost use Rattle.up_image.specs.declared.limits.TheConstants.{MAX_IMAGE};

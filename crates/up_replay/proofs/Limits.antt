@@ -1,11 +1,10 @@
 -- What is printed depends on no more than one byte past the most that a bundle has.
-use Rattle.std.proofs.Common.{◌≡◌, ℕ, ◌<◌, ◌≤◌, true, false, List, Result, length, take, nat_le, length-take, arith, refl, sym, ap, ◌⊎◌, ⊎_elim, subst, inl, inr, ◌∙◌, Option, Some, None, codes, []}
-use Rattle.std.specs.Prelude.{IfSome}
+use Rattle.std.proofs.Common.{◌≡◌, ℕ, ◌<◌, ◌≤◌, true, false, List, Result, length, take, nat_le, length-take, arith, refl, sym, ap, ⊎_elim, subst, inl, inr, ◌∙◌, Option, Some, None, codes, []}
+use Rattle.std.specs.Prelude.{Err, IfErr, IfOk, IfSome, Ok, Vec}
 use Rattle.std.specs.Io.KnownBytes.{Appends}
 use Rattle.std.proofs.lemmas.Bool.{cases_lt}
 use Rattle.std.proofs.lemmas.Bool.Decides.{nat_tests}
 use Rattle.std.proofs.lemmas.List.{take_all}
-use Rattle.up_conf.specs.declared.folder.File.{File}
 use Rattle.up_print.specs.declared.printed.Printed.{Printed}
 use Rattle.up_script.specs.Bundle.{files_of, later_folders, lines_of}
 use Rattle.up_print.specs.Folders.{prints, unusable, compile_outcome}
@@ -17,7 +16,7 @@ use Rattle.up_print.specs.Writing.{IsBegun}
 use Rattle.up_print.proofs.Reports.{any_report}
 use Rattle.up_model.specs.ExitStatuses.{status_number}
 use Rattle.up_model.specs.declared.exit_status.ExitStatus.{ExitStatus}
-use Rattle.up_model.specs.declared.exit_status.ExitStatus.TheVariants.{Memory, Unusable}
+use Rattle.up_model.specs.declared.exit_status.ExitStatus.TheVariants.{Unusable}
 
 -- some folders of a bundle, compiled
 any_folders : (lines : List (List ℕ)) → Folders lines
@@ -82,31 +81,27 @@ cut_off all bytes made old new front had begun =
     let whole = prints_take all made (subst (λ b. Prints [] (codes "-") b made) front had) in
     inl (whole.folders, subst (λ text. IsBegun old new text) (ap (λ (m : Printed). m.text) whole.same) begun)
 
--- what was written for a reader's bytes, if these are known
-pub replayed_known : (known : Option (List ℕ)) (bytes : List ℕ) (made : Printed) (status : ExitStatus) (old new : Option (List ℕ)) → IfSome known (λ all. bytes ≡ take 67108865 all) → Prints [] (codes "-") bytes made
+-- the line that says that nothing could be read is written, or its beginning
+unread : (all : List ℕ) (made : Printed) (status : ExitStatus) (old new : Option (List ℕ)) → made ≡ prints (unusable (codes "-")) Unusable
+    → (status_number status < 3 → (status ≡ made.status) × Appends old new made.text) → IsBegun old new made.text
+    → Replays all (status_number status) old new
+unread all made status old new same wrote begun = (
+  (λ below. absurd (omega (arith, ap status_number ((wrote below).0 ∙ ap (λ (m : Printed). m.status) same), below))),
+  λ three. inr (subst (λ text. IsBegun old new text) (ap (λ (m : Printed). m.text) same) begun),
+)
+
+-- what was written for what was read of a reader's bytes, if these are known
+pub written_known : {A E : Type 0} (known : Option (List ℕ)) (read : Result (Vec ℕ A) E) (made : Printed) (status : ExitStatus) (old new : Option (List ℕ))
+    → IfOk read (λ bytes. IfSome known (λ all. bytes.items ≡ take 67108865 all)) → IfOk read (λ bytes. Prints [] (codes "-") bytes.items made)
+    → IfErr read (λ _. made ≡ prints (unusable (codes "-")) Unusable)
     → (status_number status < 3 → (status ≡ made.status) × Appends old new made.text) → IsBegun old new made.text
     → IfSome known (λ all. Replays all (status_number status) old new)
-replayed_known None bytes made status old new front had wrote begun = tt
-replayed_known (Some all) bytes made status old new front had wrote begun =
-    (replayed_whole all bytes made status old new front had wrote, λ three. cut_off all bytes made old new front had begun)
+written_known None read made status old new front had same wrote begun = tt
+written_known (Some all) (Ok bytes) made status old new front had same wrote begun =
+    (replayed_whole all bytes.items made status old new front had wrote, λ three. cut_off all bytes.items made old new front had begun)
+written_known (Some all) (Err fault) made status old new front had same wrote begun = unread all made status old new same wrote begun
 
 -- nothing is promised of a status past 3
 pub refused_known : (known : Option (List ℕ)) (status : ℕ) (old new : Option (List ℕ)) → 3 < status → IfSome known (λ all. Replays all status old new)
 refused_known None status old new past = tt
 refused_known (Some all) status old new past = ((λ below. absurd (omega (arith, past, below))), λ same. absurd (omega (arith, past, same)))
-
-unusable_line : (bytes : List ℕ) (status : ExitStatus) (old new : Option (List ℕ)) → (status ≡ Unusable) ⊎ (status ≡ Memory)
-    → (status ≡ Unusable → IsBegun old new (unusable (codes "-"))) → Replays bytes (status_number status) old new
-unusable_line bytes status old new ends begun = ⊎_elim by_line by_memory ends
-  where
-    by_line : status ≡ Unusable → Replays bytes (status_number status) old new
-    by_line same = ((λ below. absurd (omega (arith, ap status_number same, below))), λ three. inr (begun same))
-
-    by_memory : status ≡ Memory → Replays bytes (status_number status) old new
-    by_memory same = ((λ below. absurd (omega (arith, ap status_number same, below))), λ three. absurd (omega (arith, ap status_number same, three)))
-
--- what was written for a reader whose bytes can't be read
-pub unreadable_known : (known : Option (List ℕ)) (status : ExitStatus) (old new : Option (List ℕ)) → (status ≡ Unusable) ⊎ (status ≡ Memory)
-    → (status ≡ Unusable → IsBegun old new (unusable (codes "-"))) → IfSome known (λ all. Replays all (status_number status) old new)
-unreadable_known None status old new ends begun = tt
-unreadable_known (Some all) status old new ends begun = unusable_line all status old new ends begun

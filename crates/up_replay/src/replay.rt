@@ -1,14 +1,12 @@
 //! Replays a bundle.
-ghost use Rattle.std.specs.Prelude.{◌≡◌, ◌⊎◌, ◌≤◌, ◌+◌, [], ◌++◌, IfOk, IfSome, OnOk, length, take, codes};
+ghost use Rattle.std.specs.Prelude.{◌≡◌, ◌≤◌, ◌+◌, [], ◌++◌, IfErr, IfOk, IfSome, OnOk, length, take, codes};
 ghost use Rattle.std.specs.List.{flat_map};
-ghost use Rattle.std.specs.Io.KnownBytes.{Appends};
 ghost use Rattle.up_model.specs.Configuration.{started_with};
 ghost use Rattle.up_model.specs.Answers.{answers};
 ghost use Rattle.up_model.specs.ExitStatuses.{status_number};
-ghost use Rattle.up_model.specs.declared.exit_status.ExitStatus.TheVariants.{Memory, Unusable};
-ghost use Rattle.up_print.specs.Folders.{unusable};
+ghost use Rattle.up_model.specs.declared.exit_status.ExitStatus.TheVariants.{Unusable};
+ghost use Rattle.up_print.specs.Folders.{prints, unusable};
 ghost use Rattle.up_print.specs.Lines.{step_lines};
-ghost use Rattle.up_print.specs.Writing.{IsBegun};
 ghost use Rattle.up_script.specs.declared.bundle.TheConstants.{MAX_BUNDLE};
 ghost use Rattle.up_replay.specs.Replay.{play_output, play_run, Plays, Prints, Replays};
 
@@ -157,14 +155,20 @@ fn read_all<R: Read>(alloc: Global, reader: &mut R) -> io::Result<Vec<u8>>
     Ok(bytes)
 }
 
-// Reports that the bundle can't be read, and returns the status.
-fn write_unreadable<W: Write>(alloc: Global, writer: &mut W) -> ExitStatus
-    ensures status { (result ≡ Unusable) ⊎ (result ≡ Memory) }
-    ensures begun { result ≡ Unusable → IsBegun (W.contents writer.old) (W.contents writer.new) (unusable (codes "-")) }
+// The output for what was read of a bundle on standard input.
+fn render_read(alloc: Global, read: io::Result<Vec<u8>>) -> Result<Printed, AllocError>
+    ensures bundle { IfOk result (λ made. IfOk read (λ bytes. Prints [] (codes "-") bytes.items made)) }
+    ensures unread { IfOk result (λ made. IfErr read (λ _. made ≡ prints (unusable (codes "-")) Unusable)) }
 {
-    match cannot_use(alloc, "-") {
-        Ok(made) => write_printed(writer, &made),
-        Err(_) => ExitStatus::Memory,
+    match read {
+        Ok(bytes) => render_bundle(alloc, bytes.as_slice()),
+        Err(error) => {
+            if error.kind() == ErrorKind::OutOfMemory {
+                Err(AllocError)
+            } else {
+                cannot_use(alloc, "-")
+            }
+        }
     }
 }
 
@@ -174,18 +178,9 @@ pub fn replay_bundle<R: Read, W: Write>(alloc: Global, reader: &mut R, writer: &
     ensures { IfSome (R.remaining reader.old) (λ bytes. Replays bytes (status_number result)
         (W.contents writer.old) (W.contents writer.new)) }
 {
-    match read_all(alloc, reader) {
-        Ok(bytes) => match render_bundle(alloc, bytes.as_slice()) {
-            Ok(made) => write_printed(writer, &made),
-            Err(_) => ExitStatus::Memory,
-        },
-        Err(error) => {
-            if error.kind() == ErrorKind::OutOfMemory {
-                ExitStatus::Memory
-            } else {
-                write_unreadable(alloc, writer)
-            }
-        }
+    match render_read(alloc, read_all(alloc, reader)) {
+        Ok(made) => write_printed(writer, &made),
+        Err(_) => ExitStatus::Memory,
     }
 }
 

@@ -35,7 +35,7 @@ fn no_socket<R: Files + Net + Print + Eprint + AllocGlobal>(
     fault: SocketFault,
 ) -> io::Result<ExitStatus> {
     if fault == SocketFault::Memory {
-        return Ok(ExitStatus::Memory);
+        return Err(io::Error::from(AllocError));
     }
     say_no_socket(rt, socket, fault);
     unusable(rt, socket)
