@@ -4,3 +4,5 @@ pub mod RowLemmas
 pub mod Growing
 -- What a sort by falling numbers leaves.
 pub mod Ranking
+-- A state that lasted a while.
+pub mod Spans

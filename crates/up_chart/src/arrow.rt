@@ -15,10 +15,12 @@ use up_text::Text;
 fn is_only(events_came: Option<u64>, before: Option<u64>) -> bool
     ensures { result ≡ is_only events_came before }
 {
-    match (events_came, before) {
-        (_, None) => true,
-        (None, Some(_)) => false,
-        (Some(events_came), Some(before)) => before <= events_came,
+    let Some(before) = before else {
+        return true;
+    };
+    match events_came {
+        Some(events_came) => before <= events_came,
+        None => false,
     }
 }
 

@@ -1,5 +1,5 @@
 -- Names that are added after others.
-use Rattle.std.proofs.Common.{◌≡◌, ℕ, suc, ◌<◌, ◌+◌, List, [], ◌∷◌, ◌++◌, refl, sym, ap, ◌∙◌, length, drop, get_or, drop-cons, add-one}
+use Rattle.std.proofs.Common.{◌≡◌, ℕ, ◌<◌, ◌+◌, List, [], ◌∷◌, ◌++◌, refl, sym, ap, ◌∙◌, length, drop, get_or}
 use Rattle.std.specs.List.{flat_map}
 use Rattle.std.specs.Str.{bytes_eq}
 use Rattle.up_conf.specs.Jobs.{with_new_item}
@@ -8,15 +8,26 @@ use Rattle.up_expr.specs.declared.node.Node.{Node}
 use Rattle.up_expr.specs.Flat.{leaves_in}
 use Rattle.up_lint.specs.Names.{with_names}
 use Rattle.up_lint.proofs.Gathered.{keys_more}
+use Rattle.up_lint.proofs.Steps.{splits}
 
 pub added_both : (names first others : List (List ℕ)) → with_names (with_names names first) others ≡ with_names names (first ++ others)
 added_both names [] others = refl
 added_both names (name ∷ first) others = added_both (with_new_item bytes_eq names name) first others
 
--- the items from a place on are the one there and those after it
-splits : {X : Type 0} (items : List X) (i : ℕ) (item : X) → i < length items → item ≡ get_or items i item → drop i items ≡ item ∷ drop (i + 1) items
-splits items i item below is =
-    drop-cons items i item below ∙ ap (λ it. it ∷ drop (suc i) items) (sym is) ∙ ap (λ n. item ∷ drop n items) (sym (add-one i))
+more : (first found one old new : List (List ℕ)) → new ≡ with_names old one → old ≡ with_names first found → new ≡ with_names first (found ++ one)
+more first found one old new step goes = step ∙ ap (λ it. with_names it one) goes ∙ added_both first found one
+
+-- what five calls add, one after another
+pub added_five : (n0 n1 n2 n3 n4 n5 a b c d e : List (List ℕ)) → n1 ≡ with_names n0 a → n2 ≡ with_names n1 b → n3 ≡ with_names n2 c → n4 ≡ with_names n3 d → n5 ≡ with_names n4 e
+    → n5 ≡ with_names n0 (a ++ b ++ c ++ d ++ e)
+added_five n0 n1 n2 n3 n4 n5 a b c d e is1 is2 is3 is4 is5 =
+    more n0 (a ++ b ++ c ++ d) e n4 n5 is5 (more n0 (a ++ b ++ c) d n3 n4 is4 (more n0 (a ++ b) c n2 n3 is3 (more n0 a b n1 n2 is2 is1)))
+
+-- one name further
+pub name_next : (names : List (List ℕ)) (i : ℕ) (name : List ℕ) (old new whole : List (List ℕ)) → i < length names → name ≡ get_or names i name
+    → new ≡ with_new_item bytes_eq old name → with_names old (drop i names) ≡ whole → with_names new (drop (i + 1) names) ≡ whole
+name_next names i name old new whole below is step goes =
+    ap (λ it. with_names it (drop (i + 1) names)) step ∙ sym (ap (with_names old) (splits names i name below is)) ∙ goes
 
 -- one item further
 pub added_next : {X : Type 0} (f : X → List (List ℕ)) (items : List X) (i : ℕ) (item : X) (old new whole : List (List ℕ)) → i < length items → item ≡ get_or items i item

@@ -17,16 +17,19 @@ use up_text::Text;
 fn is_init_key(key: &str) -> bool
     ensures { result ≡ list_any (bytes_eq key.now) init_keys }
 {
-    key == "JOB"
-        || key == "INSTANCE"
-        || key == "RESULT"
-        || key == "PROCESS"
-        || key == "EXIT_STATUS"
-        || key == "EXIT_SIGNAL"
-        || key == "UPSTART_JOB"
-        || key == "UPSTART_INSTANCE"
-        || key == "UPSTART_EVENTS"
-        || key == "UPSTART_STOP_EVENTS"
+    matches!(
+        key,
+        "JOB"
+            | "INSTANCE"
+            | "RESULT"
+            | "PROCESS"
+            | "EXIT_STATUS"
+            | "EXIT_SIGNAL"
+            | "UPSTART_JOB"
+            | "UPSTART_INSTANCE"
+            | "UPSTART_EVENTS"
+            | "UPSTART_STOP_EVENTS"
+    )
 }
 
 // Adds every piece of a text that may be a key.
@@ -147,7 +150,6 @@ fn add_set<'a>(names: &mut Names<'a>, job: &'a JobDef) -> Result<(), AllocError>
 }
 
 // Adds the keys in a job's commands and scripts.
-#[tactic(auto, using(crate::proofs::Adding::added_both), unfolding(crate::specs::Exports::run_keys))]
 fn add_run<'a>(names: &mut Names<'a>, job: &'a JobDef) -> Result<(), AllocError>
     ensures { OnOk result (names.new ≡ with_names names.old (run_keys job.now)) }
 {

@@ -182,7 +182,6 @@ fn push_life(
 }
 
 // Appends the warnings of a job, given its stanzas.
-#[tactic(auto, unfolding(crate::specs::Lint::sheet_warnings))]
 fn push_sheet(
     warnings: &mut Vec<Warning>,
     world: &World<'_>,
