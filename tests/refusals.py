@@ -239,6 +239,20 @@ def out_of_memory(work):
     check("little memory", found, ("", "initd: out of memory\n", 4))
 
 
+# The commands of a client, as its help describes them.
+COMMANDS = {
+    "start": "Starts an instance of a job",
+    "stop": "Stops an instance of a job",
+    "restart": "Stops an instance of a job and starts it again",
+    "status": "Prints the status of an instance of a job",
+    "reload": "Sends main of an instance of a job its reload signal",
+    "emit": "Emits an event",
+    "list": "Prints the status of every job",
+    "reload-configuration": "Reads the job files again",
+    "version": "Prints the version of the init",
+}
+
+
 def words_of_a_client(work):
     def said(*words):
         made = subprocess.run([INITCTL, "--socket", work / "s", *words], capture_output=True, text=True, timeout=30)
@@ -250,6 +264,9 @@ def words_of_a_client(work):
     check("a large request", said("emit", "a", "A=" + "x" * 70_000), ("initctl: Request too large\n", 1))
     text, status = said("start", "--socket", "x", "web")
     check("an option that stands too late", ("'--socket PATH' stands before the command" in text, "-- --socket" in text, status), (True, False, 2))
+    helped = subprocess.run([INITCTL, "--help"], capture_output=True, text=True, timeout=30).stdout
+    described = dict(re.findall(r"^  (\w\S*) {2,}(.+?) *$", helped, flags=re.M))
+    check("the help describes each command", {name: described.get(name) for name in COMMANDS}, COMMANDS)
 
 
 def no_socket_named(work):

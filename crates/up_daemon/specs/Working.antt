@@ -1,11 +1,12 @@
 -- What the work of a daemon is seen as: an engine that answers, and a round that goes on.
 use Rattle.std.specs.Prelude.{◌≡◌, ◌++◌, ◌∷◌, ◌⊎◌, ℕ, Bool, true, false, List, [], reverse}
 use Rattle.std.specs.List.{AllByRecursion}
-use Rattle.up_edge.specs.Calls.{Calls, with_entry, with_failure}
+use Rattle.up_edge.specs.Calls.{Calls, emptied, with_entry, with_failure}
 use Rattle.up_edge.specs.declared.happened.Happened.{Happened}
 use Rattle.up_edge.specs.declared.happened.Happened.TheVariants.{Spawned, Signalled}
 use Rattle.up_engine.specs.declared.engine.Engine.{Engine}
 use Rattle.up_engine.specs.Stands.{Stands}
+use Rattle.up_model.specs.declared.event.Event.{Event}
 use Rattle.up_model.specs.declared.input.Input.{Input}
 use Rattle.up_model.specs.declared.loaded.Loaded.{Loaded}
 use Rattle.up_model.specs.declared.output.Order.{Order}
@@ -18,8 +19,8 @@ use Rattle.up_edge.specs.declared.passed.Passed.{Passed}
 use Rattle.up_daemon.specs.declared.work.Work.{Work}
 use Rattle.up_daemon.specs.Answering.{outputs_in}
 use Rattle.up_daemon.specs.Peers.{peers_of, numbers_of, IsAtRest, last_number}
-use Rattle.up_daemon.specs.Rounds.{Reaches, ran, ran_not}
-use Rattle.up_daemon.specs.RoundStates.{Part, FindingEnds, LettingIn, HasOrders, DaemonState, RoundState, with_input}
+use Rattle.up_daemon.specs.Rounds.{IsRound, Reaches, ran, ran_not}
+use Rattle.up_daemon.specs.RoundStates.{Part, FindingEnds, LettingIn, WritingTo, HasOrders, DaemonState, RoundState, opened, with_input}
 
 -- the numbers of its clients
 abbrev pub numbers_in : Work → List ℕ
@@ -44,6 +45,22 @@ pub record IsAt (config : Configuration) (c : Chronicle) (start : DaemonState) (
     (state : RoundState) : Type 0 where
   pub stands : Stands engine config (after_all config c state.fed)
   pub reaches : Reaches config c start part state
+
+-- whatever is said of a round, by its start, holds of each that begins so: the door has these clients, these are the events that it feeds
+-- first, and of the calls of host, door and source none is recorded yet
+abbrev pub OfOpened : Work → (connected : List ℕ) → (first : List Event) → Calls Happened → Calls Passed → Calls Loaded
+    → (Configuration → Chronicle → DaemonState → Type 0) → Type 0
+OfOpened work connected first host door source says = (config : Configuration) (c : Chronicle) (start : DaemonState)
+    → Stands work.engine config c → (start.connected ≡ connected) → (start.first ≡ first)
+    → (state_of work (emptied host) (emptied door) (emptied source) [] ≡ opened start) → says config c start
+
+-- a round has come to its end
+abbrev pub IsOver : Configuration → Chronicle → DaemonState → Work → Calls Happened → Calls Passed → Calls Loaded → Type 0
+IsOver config c start work host door source = IsAt config c start (WritingTo []) work.engine (state_of work host door source [])
+
+-- a round goes from the one state to the other, whatever history its engine stands for: it feeds these inputs, for which these outputs are given
+abbrev pub RunsRound : Engine → DaemonState → List Input → List (List Output) → DaemonState → Type 0
+RunsRound engine start fed gave end = (config : Configuration) (c : Chronicle) → Stands engine config c → IsRound config c start fed gave end
 
 -- whatever round is at the one is at the other afterwards
 abbrev pub Leads : Part → Engine → RoundState → Part → Engine → RoundState → Type 0
@@ -80,6 +97,14 @@ abbrev pub Comes : Configuration → Chronicle → DaemonState → Part → Inpu
 Comes config c start part given state = (outputs : List Output)
     → outputs ≡ outputs_in (answer config (after_all config c state.fed) given)
     → Reaches config c start part (with_input given outputs state)
+
+-- the input is fed and its orders are carried out, in any part that has some
+abbrev pub Takes : Work → Calls Happened → Input → Work → Calls Happened → Type 0
+Takes old host given new host_after = (config : Configuration) (c : Chronicle) (start : DaemonState) (part : Part) → HasOrders part
+    → (door : Calls Passed) (source : Calls Loaded)
+    → Stands old.engine config (after_all config c old.log.fed.items)
+    → Comes config c start part given (state_of old host door source [])
+    → IsAt config c start part new.engine (state_of new host_after door source [])
 
 -- a process was started by one call of the host, and this input is its answer
 abbrev pub IsStarted : Order → Input → (before after : Calls Happened) → Type 0

@@ -1,11 +1,9 @@
 //! The daemon: an engine between a host, a door and a source of configurations.
-ghost use Rattle.std.specs.Prelude.{◌≡◌, ◌≢◌, ℕ, [], true, false, Ok, Err, IfOk, IfErr, OnErr, OnOk};
+ghost use Rattle.std.specs.Prelude.{◌≡◌, ◌≢◌, [], true, false, Ok, Err, IfOk, OnErr, OnOk};
 ghost use Rattle.up_daemon.specs.Connected.{AreConnected};
-ghost use Rattle.up_daemon.specs.Rounds.{IsRound};
-ghost use Rattle.up_daemon.specs.RoundStates.{WritingTo, DaemonState, HasItsClients, opened};
-ghost use Rattle.up_daemon.specs.Working.{IsAt, state_of, numbers_in};
+ghost use Rattle.up_daemon.specs.RoundStates.{HasItsClients};
+ghost use Rattle.up_daemon.specs.Working.{IsOver, OfOpened, RunsRound, numbers_in};
 ghost use Rattle.up_engine.specs.Stands.{Stands, IsDown};
-ghost use Rattle.up_edge.specs.Calls.{emptied};
 ghost use Rattle.up_model.specs.Chronicle.{Chronicle};
 ghost use Rattle.up_model.specs.Configuration.{Configuration};
 
@@ -37,12 +35,9 @@ fn do_parts<H: Host, D: Door, S: Source>(
     door: &mut D,
     source: &mut S,
 ) -> Result<(), AllocError>
-    ensures round { OnOk result ((config : Configuration) (c : Chronicle) (start : DaemonState)
-        → Stands work.old.engine config c → (start.connected ≡ D.connected door.old) → (start.first ≡ first.items)
-        → (state_of work.old (emptied (H.calls host.old)) (emptied (D.calls door.old))
-        (emptied (S.calls source.old)) [] ≡ opened start)
-        → IsAt config c start (WritingTo []) work.new.engine
-        (state_of work.new (H.calls host.new) (D.calls door.new) (S.calls source.new) [])) }
+    ensures round { OnOk result (
+        OfOpened work.old (D.connected door.old) first.items (H.calls host.old) (D.calls door.old) (S.calls source.old)
+        (λ config c start. IsOver config c start work.new (H.calls host.new) (D.calls door.new) (S.calls source.new))) }
     ensures connected { OnOk result (AreConnected (D.connected door.old) (numbers_in work.old)
         → AreConnected (D.connected door.new) (numbers_in work.new)) }
 {
@@ -117,9 +112,7 @@ impl Daemon {
         ensures answers { IfOk result (λ round. (config : Configuration) (c : Chronicle)
             → Stands (engine_of self.old) config c
             → Told (engine_of self.new) round.fed round.gave config c) }
-        ensures round { IfOk result (λ round. (config : Configuration) (c : Chronicle)
-            → Stands (engine_of self.old) config c
-            → IsRound config c
+        ensures round { IfOk result (λ round. RunsRound (engine_of self.old)
             (daemon_state self.old (H.calls host.old) (D.calls door.old) (S.calls source.old) (D.connected door.old))
             round.fed round.gave
             (daemon_state self.new (H.calls host.new) (D.calls door.new) (S.calls source.new) (D.connected door.new))) }

@@ -1,5 +1,5 @@
 //! The inputs that a round fed to the engine, and the engine's outputs.
-ghost use Rattle.std.specs.Prelude.{◌≡◌, ◌++◌, ◌∷◌, [], IfOk, OnOk};
+ghost use Rattle.std.specs.Prelude.{◌≡◌, ◌++◌, ◌∷◌, [], OnOk};
 
 use std::alloc::{AllocError, Global};
 use up_model::{Input, Output};

@@ -1,17 +1,12 @@
 //! The work of a daemon: an input is fed to the engine, and its orders are carried out.
-ghost use Rattle.std.specs.Prelude.{◌≡◌, ◌≤◌, ◌<◌, ◌+◌, ◌∷◌, ℕ, [], List, true, None, Err, alloc_error, reverse, IfOk, OnOk, MatchOption};
+ghost use Rattle.std.specs.Prelude.{◌≡◌, ◌≤◌, ◌<◌, ◌+◌, ◌∷◌, [], List, true, None, Err, alloc_error, reverse, IfOk, OnOk, MatchOption};
 ghost use Rattle.up_daemon.specs.Answering.{IsAnswered};
-ghost use Rattle.up_edge.specs.declared.passed.Passed.{Passed};
 ghost use Rattle.up_daemon.specs.Rounds.{ran, ran_not};
-ghost use Rattle.up_daemon.specs.RoundStates.{Part, DaemonState, HasOrders};
 ghost use Rattle.up_daemon.specs.Working.{IsStarted, IsSent};
-ghost use Rattle.up_engine.specs.Stands.{Stands, IsDown, left_of};
-ghost use Rattle.up_edge.specs.Calls.{Calls};
-ghost use Rattle.up_model.specs.Answers.{after_all};
+ghost use Rattle.up_engine.specs.Stands.{IsDown, left_of};
 ghost use Rattle.up_model.specs.Chronicle.{Chronicle};
 ghost use Rattle.up_model.specs.Configuration.{Configuration};
 ghost use Rattle.up_model.specs.Left.{is_calm, spawns};
-ghost use Rattle.up_model.specs.declared.loaded.Loaded.{Loaded};
 ghost use Rattle.up_model.specs.declared.output.Output.{Output};
 
 use crate::clients::Clients;
@@ -94,7 +89,7 @@ fn send<H: Host>(host: &mut H, who: &Who, pid: u32, signal: u8)
 
 impl Work {
     ghost use Rattle.up_daemon.specs.Ending.{starts_left, ends_left, waiting_of, with_start};
-    ghost use Rattle.up_daemon.specs.Working.{IsFed, IsAt, Carries, Comes, state_of, numbers_in};
+    ghost use Rattle.up_daemon.specs.Working.{IsFed, Carries, Takes, numbers_in};
 
     // Feeds one input, and puts its outputs on the stack of orders.
     fn feed(&mut self, given: Input, stack: &mut Vec<Output>) -> Result<(), AllocError>
@@ -206,12 +201,7 @@ impl Work {
 
     /// Feeds one input, and carries out its outputs.
     pub(crate) fn take<H: Host>(&mut self, host: &mut H, given: Input) -> Result<(), AllocError>
-        ensures takes { OnOk result ((config : Configuration) (c : Chronicle) (start : DaemonState) (part : Part)
-            → HasOrders part → (door : Calls Passed) (source : Calls Loaded)
-            → Stands self.old.engine config (after_all config c self.old.log.fed.items)
-            → Comes config c start part given (state_of self.old (H.calls host.old) door source [])
-            → IsAt config c start part self.new.engine
-            (state_of self.new (H.calls host.new) door source [])) }
+        ensures takes { OnOk result (Takes self.old (H.calls host.old) given self.new (H.calls host.new)) }
         ensures ends { OnOk result (is_calm given ≡ true
             → ends_left (H.living host.new) self.new [] ≤ ends_left (H.living host.old) self.old []) }
         ensures waits { OnOk result (waiting_of self.new ≡ waiting_of self.old) }

@@ -1,5 +1,5 @@
 //! The output for a folder's jobs and the inputs of a record.
-ghost use Rattle.std.specs.Prelude.{◌≡◌, ◌≤◌, [], IfOk, length};
+ghost use Rattle.std.specs.Prelude.{◌≡◌, ◌≤◌, IfOk, length};
 ghost use Rattle.up_script.specs.declared.bundle.TheConstants.{MAX_BUNDLE};
 ghost use Rattle.up_print.specs.Folders.{prints};
 ghost use Rattle.up_tools.specs.Views.{Views, ViewsBundle, ViewsInputs, run_chart, shown, viewed_run};

@@ -1,6 +1,6 @@
 //! Runs inputs, and notes the moments that their answers show.
-ghost use Rattle.std.specs.Prelude.{◌≡◌, ◌++◌, [], OnOk, IfOk};
-ghost use Rattle.up_chart.specs.Moments.{clock_at, moments_from, no_clock, step_moments, time_of};
+ghost use Rattle.std.specs.Prelude.{◌≡◌, ◌++◌, OnOk, IfOk};
+ghost use Rattle.up_chart.specs.Moments.{clock_at, moments_from, no_clock, step_moments};
 ghost use Rattle.up_engine.specs.Stands.{Stands};
 ghost use Rattle.up_model.specs.Answers.{answer, answers, next};
 ghost use Rattle.up_model.specs.Chronicle.{Chronicle};
