@@ -48,7 +48,7 @@ pub record IsAt (config : Configuration) (c : Chronicle) (start : DaemonState) (
 
 -- whatever is said of a round, by its start, holds of each that begins so: the door has these clients, these are the events that it feeds
 -- first, and of the calls of host, door and source none is recorded yet
-abbrev pub OfOpened : Work → (connected : List ℕ) → (first : List Event) → Calls Happened → Calls Passed → Calls Loaded
+abbrev pub OfOpened : Work → (connected : ℕ → Bool) → (first : List Event) → Calls Happened → Calls Passed → Calls Loaded
     → (Configuration → Chronicle → DaemonState → Type 0) → Type 0
 OfOpened work connected first host door source says = (config : Configuration) (c : Chronicle) (start : DaemonState)
     → Stands work.engine config c → (start.connected ≡ connected) → (start.first ≡ first)

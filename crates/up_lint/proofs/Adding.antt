@@ -14,21 +14,6 @@ pub added_both : (names first others : List (List ℕ)) → with_names (with_nam
 added_both names [] others = refl
 added_both names (name ∷ first) others = added_both (with_new_item bytes_eq names name) first others
 
-more : (first found one old new : List (List ℕ)) → new ≡ with_names old one → old ≡ with_names first found → new ≡ with_names first (found ++ one)
-more first found one old new step goes = step ∙ ap (λ it. with_names it one) goes ∙ added_both first found one
-
--- what five calls add, one after another
-pub added_five : (n0 n1 n2 n3 n4 n5 a b c d e : List (List ℕ)) → n1 ≡ with_names n0 a → n2 ≡ with_names n1 b → n3 ≡ with_names n2 c → n4 ≡ with_names n3 d → n5 ≡ with_names n4 e
-    → n5 ≡ with_names n0 (a ++ b ++ c ++ d ++ e)
-added_five n0 n1 n2 n3 n4 n5 a b c d e is1 is2 is3 is4 is5 =
-    more n0 (a ++ b ++ c ++ d) e n4 n5 is5 (more n0 (a ++ b ++ c) d n3 n4 is4 (more n0 (a ++ b) c n2 n3 is3 (more n0 a b n1 n2 is2 is1)))
-
--- one name further
-pub name_next : (names : List (List ℕ)) (i : ℕ) (name : List ℕ) (old new whole : List (List ℕ)) → i < length names → name ≡ get_or names i name
-    → new ≡ with_new_item bytes_eq old name → with_names old (drop i names) ≡ whole → with_names new (drop (i + 1) names) ≡ whole
-name_next names i name old new whole below is step goes =
-    ap (λ it. with_names it (drop (i + 1) names)) step ∙ sym (ap (with_names old) (splits names i name below is)) ∙ goes
-
 -- one item further
 pub added_next : {X : Type 0} (f : X → List (List ℕ)) (items : List X) (i : ℕ) (item : X) (old new whole : List (List ℕ)) → i < length items → item ≡ get_or items i item
     → new ≡ with_names old (f item) → with_names old (flat_map f (drop i items)) ≡ whole → with_names new (flat_map f (drop (i + 1) items)) ≡ whole

@@ -12,7 +12,3 @@ pub mod Gathered
 pub mod Rounds
 -- Names that are added after others.
 pub mod Adding
--- The names of a folder, gathered one set after another.
-pub mod Scenes
--- Whether an event may follow, case by case.
-pub mod Following

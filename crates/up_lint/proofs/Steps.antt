@@ -29,10 +29,3 @@ pub mapped_next : {X Y : Type 0} (f : X → Y) (items : List X) (i : ℕ) (item 
 mapped_next f items i item before old new below is step goes =
     let shown = map_more f items i item below ∙ ap (λ it. map f (take i items) ++ f it ∷ []) (sym is) in
     more before (map f (take i items)) (f item ∷ []) old new step goes ∙ ap (λ it. before ++ it) (sym shown)
-
--- the same of the items themselves
-pub copied_next : {X : Type 0} (items : List X) (i : ℕ) (item : X) (before old new : List X) → i < length items → item ≡ get_or items i item
-    → new ≡ old ++ item ∷ [] → old ≡ before ++ take i items → new ≡ before ++ take (i + 1) items
-copied_next items i item before old new below is step goes =
-    let shown = take_more items i item below ∙ ap (λ it. take i items ++ it ∷ []) (sym is) in
-    more before (take i items) (item ∷ []) old new step goes ∙ ap (λ it. before ++ it) (sym shown)

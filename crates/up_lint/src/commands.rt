@@ -101,6 +101,7 @@ fn add_action<'a>(
 }
 
 /// Adds the names after a verb in a job's commands, as in `start --no-wait NAME`, except one name that doesn't count.
+#[tactic(auto, using(crate::proofs::Adding::added_both))]
 pub(crate) fn add_named<'a>(
     names: &mut Names<'a>,
     verb: &str,

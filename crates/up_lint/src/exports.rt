@@ -150,6 +150,7 @@ fn add_set<'a>(names: &mut Names<'a>, job: &'a JobDef) -> Result<(), AllocError>
 }
 
 // Adds the keys in a job's commands and scripts.
+#[tactic(auto, using(crate::proofs::Adding::added_both), unfolding(crate::specs::Exports::run_keys))]
 fn add_run<'a>(names: &mut Names<'a>, job: &'a JobDef) -> Result<(), AllocError>
     ensures { OnOk result (names.new ≡ with_names names.old (run_keys job.now)) }
 {

@@ -88,10 +88,7 @@ pub(crate) fn declared_in(
 fn comes(world: &World<'_>, event: &str) -> bool
     ensures { result ≡ comes (scene_of world.now) event.now }
 {
-    if event == "startup" || is_job_event(event) {
-        return true;
-    }
-    world.given.has(event.as_bytes())
+    event == "startup" || is_job_event(event) || world.given.has(event.as_bytes())
 }
 
 // The event `EVENT` of `EVENT/failed`.
