@@ -39,11 +39,12 @@ fn parse(alloc: Global, text: &str) -> Result<Result<Condition, ExprFault>, Fail
 }
 
 fn write_test(out: &mut String, test: &Test) -> Result<(), AllocError> {
-    match test {
-        Test::Place(value) => write!(out, " '{}'", value.as_str()),
-        Test::Same(key, value) => write!(out, " {}='{}'", key.as_str(), value.as_str()),
-        Test::Differs(key, value) => write!(out, " {}!='{}'", key.as_str(), value.as_str()),
-    }
+    let (key, sign, value) = match test {
+        Test::Place(value) => ("", "", value),
+        Test::Same(key, value) => (key.as_str(), "=", value),
+        Test::Differs(key, value) => (key.as_str(), "!=", value),
+    };
+    write!(out, " {key}{sign}'{}'", value.as_str())
 }
 
 // A leaf with its values in quotes.
@@ -178,16 +179,6 @@ fn expressions_are_parsed(rt: HostRuntime) -> Result<(), Fail> {
     check(rt.alloc(), ROWS)
 }
 
-fn leaves(condition: &Condition) -> usize {
-    let mut count = 0usize;
-    for node in condition.nodes().as_slice() {
-        if matches!(node, Node::Leaf(_)) {
-            count = count.wrapping_add(1);
-        }
-    }
-    count
-}
-
 // A long text, and with how many leaves it is read, or that it is too large.
 struct Large {
     name: &'static str,
@@ -234,9 +225,14 @@ const LARGE: &'static [Large] = &[
 fn read_leaves(alloc: Global, text: &str) -> Result<Result<usize, u8>, Fail> {
     match parse(alloc, text)? {
         Ok(condition) => {
-            let leaves = leaves(&condition);
+            let mut count = 0usize;
+            for node in condition.nodes().as_slice() {
+                if matches!(node, Node::Leaf(_)) {
+                    count = count.wrapping_add(1);
+                }
+            }
             drop(condition);
-            Ok(Ok(leaves))
+            Ok(Ok(count))
         }
         Err(fault) => Ok(Err(fault.number())),
     }

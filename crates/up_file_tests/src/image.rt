@@ -14,17 +14,6 @@ fn add_paths(alloc: Global, folder: &mut Folder, paths: &str) -> Result<(), Allo
     Ok(())
 }
 
-// Whether a folder of files with these paths, each with an `exec`, is refused for a path that stands twice.
-fn has_same_name(alloc: Global, paths: &str) -> Result<bool, AllocError> {
-    let mut folder = Folder::new(alloc);
-    let refused = match add_paths(alloc, &mut folder, paths) {
-        Ok(()) => Ok(is_refused(alloc, &folder, CompileError::SameName)),
-        Err(refused) => Err(refused),
-    };
-    drop(folder);
-    refused
-}
-
 // In each row the paths of a folder's files.
 const TWICE: &'static str = "\
 a.conf a.conf
@@ -46,9 +35,16 @@ a.conf net/a.conf A.conf
 override override conf
 ";
 
+// Whether each folder is refused for a path that stands twice, or none is.
 fn check_paths(alloc: Global, rows: &'static str, same: bool) -> Result<(), Fail> {
     for row in rows.lines() {
-        if has_same_name(alloc, row)? != same {
+        let mut folder = Folder::new(alloc);
+        let refused = match add_paths(alloc, &mut folder, row) {
+            Ok(()) => Ok(is_refused(alloc, &folder, CompileError::SameName)),
+            Err(refused) => Err(refused),
+        };
+        drop(folder);
+        if refused? != same {
             return Err(Fail::from(row));
         }
     }

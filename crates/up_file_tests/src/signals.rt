@@ -36,16 +36,13 @@ static SIGNALS: [(&'static str, u8); 31] = [
     ("SYS", 31),
 ];
 
-fn is_read(name: &str, number: u8) -> bool {
-    match Signal::read(name) {
-        Some(signal) => signal.number() == number && signal_name(number) == Some(name),
-        None => false,
-    }
-}
-
 fn check(signals: &[(&'static str, u8)]) -> Result<(), Fail> {
     for signal in signals {
-        if !is_read(signal.0, signal.1) {
+        let is_read = match Signal::read(signal.0) {
+            Some(found) => found.number() == signal.1 && signal_name(signal.1) == Some(signal.0),
+            None => false,
+        };
+        if !is_read {
             return Err(Fail::from(signal.0));
         }
     }

@@ -142,16 +142,12 @@ fn first_accepted(env: &mut Env, pairs: &[Pair]) -> Option<&'static str> {
     None
 }
 
-fn append(alloc: Global, env: &mut Env, pairs: &[Pair]) -> Result<(), TextFault> {
-    let appended = env_of(alloc, pairs)?;
-    let done = env.append(&appended);
-    drop(appended);
-    Ok(done?)
-}
-
 // Whether an environment gives what it should after another is appended, its copy too, and no less after what it refuses.
 fn gives(alloc: Global, env: &mut Env, case: &Case) -> Result<bool, TextFault> {
-    append(alloc, env, case.appended)?;
+    let appended = env_of(alloc, case.appended)?;
+    let done = env.append(&appended);
+    drop(appended);
+    done?;
     let copied = env.copy()?;
     let is_copied = has_pairs(&copied, case.given);
     drop(copied);

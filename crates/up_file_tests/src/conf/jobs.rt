@@ -98,6 +98,38 @@ fn are_settings(settings: &[Setting], expected: &[(&str, Option<&str>)]) -> bool
     settings.len() == expected.len()
 }
 
+// Whether these stand: `task`, `respawn` and `console none`.
+fn has_marks(job: &JobDef, task: bool, respawn: bool, silent: bool) -> bool {
+    job.task == task && job.respawn == respawn && job.silent == silent
+}
+
+// Whether its instances and its folder are these texts.
+fn has_texts(job: &JobDef, instance: &str, dir: &str) -> bool {
+    job.instance.is(instance) && job.dir.is(dir)
+}
+
+// Whether it is ended by this signal, killed after this time, and respawned so often.
+fn has_numbers(job: &JobDef, signal: u8, seconds: u32, count: u32, interval: u32) -> bool {
+    job.kill_signal.number() == signal
+        && job.kill_timeout == seconds
+        && job.limit.count == count
+        && job.limit.interval == interval
+}
+
+// Whether it has no process but these two.
+fn has_processes(job: &JobDef, main: &[&str], pre_start: &[&str]) -> bool {
+    runs(&job.main, main)
+        && runs(&job.pre_start, pre_start)
+        && job.post_start.is_none()
+        && job.pre_stop.is_none()
+        && job.post_stop.is_none()
+}
+
+// Whether it sets and exports so many keys.
+fn has_keys(job: &JobDef, set: usize, exported: usize) -> bool {
+    job.env.as_slice().len() == set && job.export.as_slice().len() == exported
+}
+
 // Whether the normal exits are the status 0, TERM and the status 15.
 fn are_expected_exits(exits: &[Exit]) -> bool {
     match exits {
@@ -112,35 +144,22 @@ fn are_expected_exits(exits: &[Exit]) -> bool {
 
 fn states(job: &JobDef, fact: &Fact) -> bool {
     match fact {
-        Fact::Marks(task, respawn, silent) => {
-            job.task == *task && job.respawn == *respawn && job.silent == *silent
-        }
-        Fact::Texts(instance, dir) => job.instance.is(*instance) && job.dir.is(*dir),
+        Fact::Marks(task, respawn, silent) => has_marks(job, *task, *respawn, *silent),
+        Fact::Texts(instance, dir) => has_texts(job, *instance, *dir),
         Fact::Reload(signal) => job.reload_signal.number() == *signal,
         Fact::Numbers(signal, seconds, count, interval) => {
-            job.kill_signal.number() == *signal
-                && job.kill_timeout == *seconds
-                && job.limit.count == *count
-                && job.limit.interval == *interval
+            has_numbers(job, *signal, *seconds, *count, *interval)
         }
         Fact::Task => job.task,
         Fact::Main(words) => runs(&job.main, *words),
         Fact::NoMain => job.main.is_none(),
-        Fact::Processes(main, pre_start) => {
-            runs(&job.main, *main)
-                && runs(&job.pre_start, *pre_start)
-                && job.post_start.is_none()
-                && job.pre_stop.is_none()
-                && job.post_stop.is_none()
-        }
+        Fact::Processes(main, pre_start) => has_processes(job, *main, *pre_start),
         Fact::StartsOn(event) => is_event(&job.start_on, *event),
         Fact::NeverStarts => job.start_on.is_none(),
         Fact::StopsOn(event) => is_event(&job.stop_on, *event),
         Fact::Env(settings) => are_settings(job.env.as_slice(), *settings),
         Fact::Export(keys) => are_texts(job.export.as_slice(), *keys),
-        Fact::Keys(set, exported) => {
-            job.env.as_slice().len() == *set && job.export.as_slice().len() == *exported
-        }
+        Fact::Keys(set, exported) => has_keys(job, *set, *exported),
         Fact::Exits => are_expected_exits(job.normal.as_slice()),
     }
 }

@@ -1,7 +1,7 @@
 //! What a file may have at most.
 use crate::conf::{Reading, read};
 use crate::tables::{Long, long_text};
-use std::alloc::{AllocError, Global};
+use std::alloc::Global;
 use std::test::Fail;
 
 // A long file, its size if that is limited, and what it is read as.
@@ -89,20 +89,13 @@ const LARGE: &'static [Large] = &[
     },
 ];
 
-fn is_large(alloc: Global, bytes: &[u8], case: &Large) -> bool {
-    case.size.unwrap_or(bytes.len()) == bytes.len() && read(alloc, bytes) == case.reading
-}
-
-fn is_read(alloc: Global, case: &Large) -> Result<bool, AllocError> {
-    let text = long_text(alloc, &case.text)?;
-    let is_large = is_large(alloc, text.as_bytes(), case);
-    drop(text);
-    Ok(is_large)
-}
-
 fn check(alloc: Global, cases: &[Large]) -> Result<(), Fail> {
     for case in cases {
-        if !is_read(alloc, case)? {
+        let text = long_text(alloc, &case.text)?;
+        let reading = read(alloc, text.as_bytes());
+        let size = text.len();
+        drop(text);
+        if reading != case.reading || case.size.unwrap_or(size) != size {
             return Err(Fail::from(case.name));
         }
     }

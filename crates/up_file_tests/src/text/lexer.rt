@@ -52,7 +52,8 @@ const CASES: &'static [Case] = &[
     // Parentheses.
     (
         "on a(b # c\n \n\"(\"\\)c) d)\ne (f\ng)",
-        "plain 1 on|parens on|plain 1 a|plain 1 (|plain 1 b|spelled 3 ()c|plain 3 )|plain 3 d|plain 3 )|end|plain 4 e|parens off|plain 4 (f|end|plain 5 g)|end|nothing",
+        "plain 1 on|parens on|plain 1 a|plain 1 (|plain 1 b|spelled 3 ()c|plain 3 )|plain 3 d|plain 3 )|end|plain 4 e|parens off|\
+         plain 4 (f|end|plain 5 g)|end|nothing",
     ),
     ("a (\n", "parens on|plain 1 a|plain 1 (|end|nothing"),
     // Scripts.

@@ -217,16 +217,12 @@ fn is_matched(alloc: Global, pattern: &[u8], case: &LongCase) -> Result<bool, Al
     Ok(supported(pattern) && matches == case.matches)
 }
 
-fn is_long_case(alloc: Global, case: &LongCase) -> Result<bool, AllocError> {
-    let pattern = long_text(alloc, &case.pattern)?;
-    let is_matched = is_matched(alloc, pattern.as_bytes(), case);
-    drop(pattern);
-    is_matched
-}
-
 fn check_long(alloc: Global, cases: &[LongCase]) -> Result<(), Fail> {
     for (place, case) in cases.iter().enumerate() {
-        if !is_long_case(alloc, case)? {
+        let pattern = long_text(alloc, &case.pattern)?;
+        let is_matched = is_matched(alloc, pattern.as_bytes(), case);
+        drop(pattern);
+        if !is_matched? {
             return Err(Fail::new(format_args!("case {place}")));
         }
     }
