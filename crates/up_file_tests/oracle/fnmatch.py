@@ -84,11 +84,11 @@ def escaped(text):
     return text.decode("ascii").replace("\\", "\\\\")
 
 
-print("//! What fnmatch(3) says: in each row a pattern, a text, and whether they match with flags 0 in the C locale.")
+print("//! What fnmatch(3) says: in each row a pattern, and a text, after `+` if they match with flags 0 in the C locale, and after `-` if they don't.")
 print("//!")
 print("//! Written by oracle/fnmatch.py from the C library of Debian 12 (glibc 2.36); it says which patterns are left out.")
 print()
 print('pub(crate) const ROWS: &str = "\\')
 for pattern, text, fits in itertools.islice(rows(), ROWS):
-    print(escaped(pattern), escaped(text), str(fits).lower())
+    print(escaped(pattern), ("+" if fits else "-") + escaped(text))
 print('";')

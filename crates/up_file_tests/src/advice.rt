@@ -1,10 +1,11 @@
 //! What is said of a fault, and the graph of a folder's jobs.
 use crate::conf::folder_of;
+use crate::conf::folders::read;
 use std::alloc::{AllocError, Global};
 use std::test::Fail;
 use up_advice::graph::graph;
 use up_advice::push_advice;
-use up_conf::{Folder, FolderIndex, JobDef, Report, read_folder};
+use up_conf::{Folder, JobDef, Report};
 
 const SAID: &'static str = "    setuid root\n    `setuid` is left out: ";
 
@@ -17,34 +18,44 @@ fn is_said(alloc: Global, folder: &Folder, report: &Report) -> Result<bool, Allo
     Ok(text.as_slice().starts_with(SAID.as_bytes()) && text.as_slice().ends_with(b"\n"))
 }
 
-const DRAWN: &'static str =
-    "digraph jobs {\n  rankdir=LR;\n  \"job a\" [label=\"a\", shape=box];\n  \"event go\" [label=\"go\", shape=ellipse];\n  \"event go\" -> \"job a\" [label=\"start on\"];\n}\n";
+const DRAWN: &'static str = r#"digraph jobs {
+  rankdir=LR;
+  "job a" [label="a", shape=box];
+  "event go" [label="go", shape=ellipse];
+  "event go" -> "job a" [label="start on"];
+}
+"#;
 
 fn is_drawn(alloc: Global, jobs: &[JobDef]) -> Result<bool, AllocError> {
     let text = graph(alloc, jobs)?;
     Ok(text.as_slice() == DRAWN.as_bytes())
 }
 
+const FILES: &'static [(&'static str, &'static [u8])] = &[
+    ("a.conf", b"start on go\nexec /bin/d\n"),
+    ("b.conf", b"# b\nsetuid root\n"),
+];
+
+fn check(alloc: Global, folder: &Folder) -> Result<(), Fail> {
+    match read(alloc, folder) {
+        Ok((jobs, report)) => {
+            let said = is_said(alloc, folder, &report);
+            drop(report);
+            let drawn = is_drawn(alloc, jobs.as_slice());
+            drop(jobs);
+            match (said?, drawn?) {
+                (true, true) => Ok(()),
+                (said, drawn) => Err(Fail::new(format_args!("said: {said}, drawn: {drawn}"))),
+            }
+        }
+        Err(fault) => Err(Fail::from(fault)),
+    }
+}
+
 #[test]
 fn a_fault_is_explained_and_a_job_is_drawn(rt: HostRuntime) -> Result<(), Fail> {
-    let alloc = rt.alloc();
-    let folder = folder_of(
-        alloc,
-        &[
-            ("a.conf", b"start on go\nexec /bin/d\n"),
-            ("b.conf", b"# b\nsetuid root\n"),
-        ],
-    )?;
-    let index = FolderIndex::new(alloc, &folder)?;
-    let read = read_folder(alloc, &index);
-    drop(index);
-    let (jobs, report) = read?;
-    let said = is_said(alloc, &folder, &report)?;
-    let drawn = is_drawn(alloc, jobs.as_slice())?;
-    drop(jobs);
-    drop(report);
+    let folder = folder_of(rt.alloc(), FILES)?;
+    let checked = check(rt.alloc(), &folder);
     drop(folder);
-    assert!(rt; said);
-    assert!(rt; drawn);
-    Ok(())
+    checked
 }

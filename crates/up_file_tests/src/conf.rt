@@ -1,7 +1,7 @@
 //! What job files and folders of them say.
 mod codes;
-mod folders;
-mod jobs;
+pub(crate) mod folders;
+pub(crate) mod jobs;
 mod limits;
 
 use std::alloc::{AllocError, Global};
@@ -18,14 +18,33 @@ pub(crate) fn add(
     path: &str,
     bytes: &[u8],
 ) -> Result<(), AllocError> {
-    let path = Text::from_str(alloc, path)?;
-    let bytes = Vec::from_slice(alloc, bytes)?;
-    folder.add(path, Items::new(bytes))
+    let bytes = Vec::from_slice(alloc, bytes);
+    match Text::from_str(alloc, path) {
+        Ok(path) => folder.add(path, Items::new(bytes?)),
+        Err(refused) => {
+            drop(bytes);
+            Err(refused)
+        }
+    }
+}
+
+// Adds a file whose path begins with a number.
+pub(crate) fn add_numbered(
+    alloc: Global,
+    folder: &mut Folder,
+    number: u32,
+    end: &str,
+    bytes: &[u8],
+) -> Result<(), AllocError> {
+    let path = format!(in alloc; "{number}{end}")?;
+    let added = add(alloc, folder, path.as_str(), bytes);
+    drop(path);
+    added
 }
 
 fn add_all(alloc: Global, folder: &mut Folder, files: &[(&str, &[u8])]) -> Result<(), AllocError> {
-    for (path, bytes) in files {
-        add(alloc, folder, *path, *bytes)?;
+    for file in files {
+        add(alloc, folder, file.0, file.1)?;
     }
     Ok(())
 }
@@ -53,18 +72,12 @@ fn is_event(condition: &Option<Condition>, name: &str) -> bool {
     }
 }
 
-fn is_text(texts: &[Text], place: usize, expected: &str) -> bool {
-    match texts.get(place) {
-        Some(text) => text.is(expected),
-        None => false,
-    }
-}
-
 // Whether texts are these.
 fn are_texts(texts: &[Text], expected: &[&str]) -> bool {
     for (place, text) in expected.iter().enumerate() {
-        if !is_text(texts, place, *text) {
-            return false;
+        match texts.get(place) {
+            Some(found) if found.is(*text) => {}
+            _ => return false,
         }
     }
     texts.len() == expected.len()
@@ -97,25 +110,26 @@ const BYTES: &'static [(&'static [u8], Reading)] = &[
     (b"task\nbogus x\n", Err((2, 1))),
 ];
 
-fn gives(alloc: Global, bytes: &[u8], reading: Reading) -> Result<bool, AllocError> {
-    match read_bytes(alloc, bytes)? {
-        Ok(stanzas) => {
-            let count = stanzas.as_slice().len();
-            drop(stanzas);
-            Ok(reading == Ok(count))
+fn check_bytes(alloc: Global, cases: &[(&[u8], Reading)]) -> Result<(), Fail> {
+    for case in cases {
+        let reading = match read_bytes(alloc, case.0)? {
+            Ok(stanzas) => {
+                let count = stanzas.as_slice().len();
+                drop(stanzas);
+                Ok(count)
+            }
+            Err(fault) => Err((fault.line, fault.code.number())),
+        };
+        if reading != case.1 {
+            return Err(Fail::from(case.1));
         }
-        Err(fault) => Ok(reading == Err((fault.line, fault.code.number()))),
     }
+    Ok(())
 }
 
 #[test]
 fn bytes_give_stanzas_or_their_fault(rt: HostRuntime) -> Result<(), Fail> {
-    for (bytes, reading) in BYTES {
-        if !gives(rt.alloc(), *bytes, *reading)? {
-            return Err(Fail::from(*reading));
-        }
-    }
-    Ok(())
+    check_bytes(rt.alloc(), BYTES)
 }
 
 // Files and how many stanzas they have, if they are read.
@@ -135,12 +149,17 @@ const FILES: &'static [(&'static [u8], Option<usize>)] = &[
     (b"start on (a or b X=1)\n  and c\nstop on d\n", None),
     (b"start on (a\n or b X=1)\nstop on d\n", Some(2)),
     (b"\n# nothing\n", Some(0)),
+    // The largest numbers.
+    (
+        b"respawn limit 065535 2147483647\nnormal exit 0255 SYS\nkill signal 31\nkill timeout 00\n",
+        Some(4),
+    ),
 ];
 
 fn check_files(alloc: Global, files: &[(&[u8], Option<usize>)]) -> Result<(), Fail> {
-    for (place, (bytes, count)) in files.iter().enumerate() {
-        if read(alloc, *bytes).ok() != *count {
-            return Err(Fail::new(format_args!("file {place}: the count isn't {count:?}")));
+    for (place, case) in files.iter().enumerate() {
+        if read(alloc, case.0).ok() != case.1 {
+            return Err(Fail::new(format_args!("file {place}: the count isn't {:?}", case.1)));
         }
     }
     Ok(())
@@ -208,26 +227,23 @@ const RUNS: &'static [Run] = &[
 ];
 
 fn is_command(action: &Action, command: &Command) -> bool {
-    match (action, command) {
-        (Action::Words(words), Command::Words(expected)) => are_texts(words.as_slice(), *expected),
-        (Action::Shell(text), Command::Shell(expected)) => text.is(*expected),
-        _ => false,
-    }
-}
-
-fn is_run(stanzas: &[Stanza], run: &Run) -> bool {
-    match stanzas {
-        [Stanza::Runs(process, action)] => {
-            *process == run.process && is_command(action, &run.command)
+    match command {
+        Command::Words(expected) => {
+            matches!(action, Action::Words(words) if are_texts(words.as_slice(), *expected))
         }
-        _ => false,
+        Command::Shell(expected) => matches!(action, Action::Shell(text) if text.is(*expected)),
     }
 }
 
 fn holds(alloc: Global, run: &Run) -> bool {
     match read_conf(alloc, run.bytes) {
         Ok(stanzas) => {
-            let is_run = is_run(stanzas.as_slice(), run);
+            let is_run = match stanzas.as_slice() {
+                [Stanza::Runs(process, action)] => {
+                    *process == run.process && is_command(action, &run.command)
+                }
+                _ => false,
+            };
             drop(stanzas);
             is_run
         }

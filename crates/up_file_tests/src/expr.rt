@@ -1,11 +1,12 @@
 //! Expressions, and the events that their leaves match.
 ghost use Rattle.std.specs.Prelude.{◌≡◌, ◌<◌, length};
 
-use crate::text::env_of;
+use crate::tables::{Long, fields, is_number, is_printed, long_text};
+use crate::text::{Pair, env_of};
 use std::alloc::{AllocError, Global};
 use std::test::Fail;
 use up_expr::{Branch, Condition, ExprFault, Leaf, Node, Root, Test, leaf_matches, parse_expr};
-use up_text::{Env, Items, Lexer, Name, Text, Token};
+use up_text::{Env, Items, Lexer, Name, Text, TextFault, Token, next_word};
 
 // The tokens of a stanza, where parentheses are tokens.
 fn tokens_of(alloc: Global, text: &str) -> Result<Vec<Token>, Fail> {
@@ -43,12 +44,7 @@ fn write_test(out: &mut String, test: &Test) -> Result<(), AllocError> {
         Test::Same(key, value) => (key.as_str(), "=", value),
         Test::Differs(key, value) => (key.as_str(), "!=", value),
     };
-    out.push_str(" ")?;
-    out.push_str(key)?;
-    out.push_str(sign)?;
-    out.push_str("'")?;
-    out.push_str(value.as_str())?;
-    out.push_str("'")
+    write!(out, " {key}{sign}'{}'", value.as_str())
 }
 
 // A leaf with its values in quotes.
@@ -86,149 +82,107 @@ pub(crate) fn is_written(
     Ok(written.as_str() == tree)
 }
 
-fn copy_is_written(alloc: Global, condition: &Condition, tree: &str) -> Result<bool, AllocError> {
-    let copied = condition.copy(alloc)?;
-    is_written(alloc, &copied, tree)
-}
-
 // Whether a tree is written so, and its copy too.
-fn are_written(alloc: Global, condition: &Condition, tree: &str) -> Result<bool, Fail> {
+fn are_written(alloc: Global, condition: &Condition, tree: &str) -> Result<bool, AllocError> {
     let is_tree = is_written(alloc, condition, tree)?;
-    Ok(is_tree && copy_is_written(alloc, condition, tree)?)
+    let copied = condition.copy(alloc)?;
+    let is_copied = is_written(alloc, &copied, tree);
+    drop(copied);
+    Ok(is_tree && is_copied?)
 }
 
-fn has_tree(alloc: Global, text: &str, tree: &str) -> Result<bool, Fail> {
+// In each row an expression, and the tree that it is, or the number of the fault for which it is refused.
+const ROWS: &'static str = r#"# Operators group to the left.
+a|is|a
+a and b|is|(a and b)
+a or b and c|is|((a or b) and c)
+a and b or c and d|is|(((a and b) or c) and d)
+a and (b or c)|is|(a and (b or c))
+(a or b) and (c or d)|is|((a or b) and (c or d))
+a or (b and (c or d) and e)|is|(a or ((b and (c or d)) and e))
+((a))|is|a
+# Leaves have values.
+stopped a RESULT!=ok|is|stopped 'a' RESULT!='ok'
+a x 'y z' K=v and b|is|(a 'x' 'y z' K='v' and b)
+a "and" '(' \or|is|a 'and' '(' 'or'
+"and" or 'or'|is|(and or or)
+a K=v J!=w L!= M=b=c|is|a K='v' J!='w' L!='' M='b=c'
+a k-x=1 =y !=z K!!=v|is|a 'k-x=1' '=y' '!=z' 'K!!=v'
+a $X ${Y-b} [!c]* K=${Z}|is|a '$X' '${Y-b}' '[!c]*' K='${Z}'
+a x K=v and (b or c J!=w)|is|(a 'x' K='v' and (b or c J!='w'))
+# No expressions.
+|refused|8
+and|refused|8
+x and|refused|8
+or x|refused|8
+x and or y|refused|8
+x and )|refused|8
+()|refused|8
+(x|refused|8
+x)|refused|8
+(x) y|refused|8
+x (y)|refused|8
+(x) (y)|refused|8
+(x and) y|refused|8
+x K=v w|refused|9
+x K!=v w|refused|9
+x y K=v w and z|refused|9
+# No names, patterns or values.
+a=b|refused|12
+'a b'|refused|12
+$x|refused|12
+x and ''|refused|12
+a [[:x]|refused|13
+a K=[[.b.]]|refused|13
+a K!=x[a[=b]|refused|13
+a ${Z|refused|14
+a K=${Z|refused|14
+a K!=${5}|refused|14
+"#;
+
+// Where a line ends within parentheses.
+const OVER_LINES: (&'static str, &'static str) = ("(a\n or b)", "(a or b)");
+
+// Whether an expression is this tree, or is refused by this number.
+fn comes_to(alloc: Global, text: &str, outcome: &str, wanted: &str) -> Result<bool, Fail> {
     match parse(alloc, text)? {
-        Ok(condition) => are_written(alloc, &condition, tree),
-        Err(_) => Ok(false),
+        Ok(condition) => {
+            let are_written = are_written(alloc, &condition, wanted);
+            drop(condition);
+            Ok(outcome == "is" && are_written?)
+        }
+        Err(fault) => Ok(outcome == "refused" && is_number(wanted, u32::from(fault.number()))),
     }
 }
 
-fn check_trees(alloc: Global, cases: &[(&'static str, &'static str)]) -> Result<(), Fail> {
-    for (text, tree) in cases {
-        if !has_tree(alloc, *text, *tree)? {
-            return Err(Fail::from(*text));
+fn holds(alloc: Global, row: &str) -> Result<bool, Fail> {
+    match fields(row) {
+        Some((text, outcome, wanted)) => comes_to(alloc, text, outcome, wanted),
+        None => Ok(row.starts_with('#')),
+    }
+}
+
+fn check(alloc: Global, rows: &'static str) -> Result<(), Fail> {
+    for row in rows.lines() {
+        if !holds(alloc, row)? {
+            return Err(Fail::from(row));
         }
+    }
+    if !comes_to(alloc, OVER_LINES.0, "is", OVER_LINES.1)? {
+        return Err(Fail::from(OVER_LINES.0));
     }
     Ok(())
 }
 
-const GROUPED: &'static [(&'static str, &'static str)] = &[
-    ("a", "a"),
-    ("a and b", "(a and b)"),
-    ("a or b and c", "((a or b) and c)"),
-    ("a and b or c and d", "(((a and b) or c) and d)"),
-    ("a and (b or c)", "(a and (b or c))"),
-    ("(a or b) and (c or d)", "((a or b) and (c or d))"),
-    (
-        "a or (b and (c or d) and e)",
-        "(a or ((b and (c or d)) and e))",
-    ),
-    ("((a))", "a"),
-    ("(a\n or b)", "(a or b)"),
-];
-
 #[test]
-fn operators_group_to_the_left(rt: HostRuntime) -> Result<(), Fail> {
-    check_trees(rt.alloc(), GROUPED)
+fn expressions_are_parsed(rt: HostRuntime) -> Result<(), Fail> {
+    check(rt.alloc(), ROWS)
 }
 
-const VALUES: &'static [(&'static str, &'static str)] = &[
-    ("stopped a RESULT!=ok", "stopped 'a' RESULT!='ok'"),
-    ("a x 'y z' K=v and b", "(a 'x' 'y z' K='v' and b)"),
-    ("a \"and\" '(' \\or", "a 'and' '(' 'or'"),
-    ("\"and\" or 'or'", "(and or or)"),
-    ("a K=v J!=w L!= M=b=c", "a K='v' J!='w' L!='' M='b=c'"),
-    ("a k-x=1 =y !=z K!!=v", "a 'k-x=1' '=y' '!=z' 'K!!=v'"),
-    (
-        "a $X ${Y-b} [!c]* K=${Z}",
-        "a '$X' '${Y-b}' '[!c]*' K='${Z}'",
-    ),
-    (
-        "a x K=v and (b or c J!=w)",
-        "(a 'x' K='v' and (b or c J!='w'))",
-    ),
-];
-
-#[test]
-fn leaves_have_values(rt: HostRuntime) -> Result<(), Fail> {
-    check_trees(rt.alloc(), VALUES)
-}
-
-fn is_refused(alloc: Global, text: &str, number: u8) -> Result<bool, Fail> {
-    match parse(alloc, text)? {
-        Ok(_) => Ok(false),
-        Err(fault) => Ok(fault.number() == number),
-    }
-}
-
-fn check_refused(alloc: Global, cases: &[(&'static str, u8)]) -> Result<(), Fail> {
-    for (text, number) in cases {
-        if !is_refused(alloc, *text, *number)? {
-            return Err(Fail::from(*text));
-        }
-    }
-    Ok(())
-}
-
-const NO_EXPRESSIONS: &'static [(&'static str, u8)] = &[
-    ("", 8),
-    ("and", 8),
-    ("x and", 8),
-    ("or x", 8),
-    ("x and or y", 8),
-    ("x and )", 8),
-    ("()", 8),
-    ("(x", 8),
-    ("x)", 8),
-    ("(x) y", 8),
-    ("x (y)", 8),
-    ("(x) (y)", 8),
-    ("(x and) y", 8),
-    ("x K=v w", 9),
-    ("x K!=v w", 9),
-    ("x y K=v w and z", 9),
-];
-
-#[test]
-fn refuses_what_is_no_expression(rt: HostRuntime) -> Result<(), Fail> {
-    check_refused(rt.alloc(), NO_EXPRESSIONS)
-}
-
-const NO_NAMES_OR_VALUES: &'static [(&'static str, u8)] = &[
-    ("a=b", 12),
-    ("'a b'", 12),
-    ("$x", 12),
-    ("x and ''", 12),
-    ("a [[:x]", 13),
-    ("a K=[[.b.]]", 13),
-    ("a K!=x[a[=b]", 13),
-    ("a ${Z", 14),
-    ("a K=${Z", 14),
-    ("a K!=${5}", 14),
-];
-
-#[test]
-fn refuses_names_and_values(rt: HostRuntime) -> Result<(), Fail> {
-    check_refused(rt.alloc(), NO_NAMES_OR_VALUES)
-}
-
-fn leaves(condition: &Condition) -> usize {
-    let nodes = condition.nodes().as_slice();
-    nodes
-        .iter()
-        .filter(|node| matches!(node, Node::Leaf(_)))
-        .count()
-}
-
-// A text of pieces in a row, an end, and parentheses that close; with how many leaves it is read, or that it is too large.
-#[derive(Drop)]
+// A long text, and with how many leaves it is read, or that it is too large.
 struct Large {
     name: &'static str,
-    piece: &'static str,
-    times: usize,
-    end: &'static str,
-    closing: usize,
+    text: Long,
     leaves: Result<usize, u8>,
 }
 
@@ -237,275 +191,106 @@ const LARGE: &'static [Large] = &[
     // The tree is as deep as it has leaves.
     Large {
         name: "most leaves",
-        piece: "a or ",
-        times: 2_047,
-        end: "a",
-        closing: 0,
+        text: ("", "a or ", 2_047, "a", 0),
         leaves: Ok(2_048),
     },
     Large {
         name: "too many leaves",
-        piece: "a or ",
-        times: 2_047,
-        end: "a and a",
-        closing: 0,
+        text: ("", "a or ", 2_047, "a and a", 0),
         leaves: Err(16),
     },
     Large {
         name: "most parentheses",
-        piece: "(a and ",
-        times: 256,
-        end: "a",
-        closing: 256,
+        text: ("", "(a and ", 256, "a", 256),
         leaves: Ok(257),
     },
     Large {
         name: "too many parentheses",
-        piece: "(a and ",
-        times: 257,
-        end: "a",
-        closing: 257,
+        text: ("", "(a and ", 257, "a", 257),
         leaves: Err(16),
     },
     Large {
         name: "most values",
-        piece: "a ",
-        times: 65_536,
-        end: "",
-        closing: 0,
+        text: ("", "a ", 65_536, "", 0),
         leaves: Ok(1),
     },
     Large {
         name: "too many values",
-        piece: "a ",
-        times: 65_536,
-        end: "a",
-        closing: 0,
+        text: ("", "a ", 65_536, "a", 0),
         leaves: Err(16),
     },
 ];
 
-fn push_repeated(text: &mut String, piece: &str, times: usize) -> Result<(), AllocError> {
-    for _ in 0..times {
-        text.push_str(piece)?;
-    }
-    Ok(())
-}
-
-fn text_of(alloc: Global, case: &Large) -> Result<String, AllocError> {
-    let mut text = String::new(alloc);
-    push_repeated(&mut text, case.piece, case.times)?;
-    text.push_str(case.end)?;
-    push_repeated(&mut text, ")", case.closing)?;
-    Ok(text)
-}
-
 // How many leaves a text has, or the number of its fault.
 fn read_leaves(alloc: Global, text: &str) -> Result<Result<usize, u8>, Fail> {
     match parse(alloc, text)? {
-        Ok(condition) => Ok(Ok(leaves(&condition))),
+        Ok(condition) => {
+            let mut count = 0usize;
+            for node in condition.nodes().as_slice() {
+                if matches!(node, Node::Leaf(_)) {
+                    count = count.wrapping_add(1);
+                }
+            }
+            drop(condition);
+            Ok(Ok(count))
+        }
         Err(fault) => Ok(Err(fault.number())),
     }
 }
 
-fn is_read(alloc: Global, case: &Large) -> Result<bool, Fail> {
-    let text = text_of(alloc, case)?;
-    Ok(read_leaves(alloc, text.as_str())? == case.leaves)
-}
-
-#[test]
-fn expressions_are_limited(rt: HostRuntime) -> Result<(), Fail> {
-    for case in LARGE {
-        assert!(rt; is_read(rt.alloc(), case)?, "{}", case.name);
+fn check_large(alloc: Global, cases: &[Large]) -> Result<(), Fail> {
+    for case in cases {
+        let text = long_text(alloc, &case.text)?;
+        let leaves = read_leaves(alloc, text.as_str());
+        drop(text);
+        if leaves? != case.leaves {
+            return Err(Fail::from(case.name));
+        }
     }
     Ok(())
 }
 
-#[derive(Drop)]
-struct Match {
-    leaf: &'static str,
-    event: &'static str,
-    vars: &'static [(&'static str, &'static str)],
-    matches: bool,
+#[test]
+fn expressions_are_limited(rt: HostRuntime) -> Result<(), Fail> {
+    check_large(rt.alloc(), LARGE)
 }
 
-const PLAIN: &'static [Match] = &[
-    Match {
-        leaf: "stopped a RESULT!=ok",
-        event: "stopped",
-        vars: &[("JOB", "a")],
-        matches: true,
-    },
-    Match {
-        leaf: "stopped a RESULT!=ok",
-        event: "stopped",
-        vars: &[("JOB", "a"), ("RESULT", "ok")],
-        matches: false,
-    },
-    Match {
-        leaf: "stopped a RESULT!=ok",
-        event: "stopped",
-        vars: &[("JOB", "a"), ("RESULT", "failed")],
-        matches: true,
-    },
-    Match {
-        leaf: "stopped a RESULT!=ok",
-        event: "stopped",
-        vars: &[("JOB", "b")],
-        matches: false,
-    },
-    Match {
-        leaf: "stopped a",
-        event: "started",
-        vars: &[("JOB", "a")],
-        matches: false,
-    },
-    Match {
-        leaf: "e",
-        event: "e",
-        vars: &[("X", "a")],
-        matches: true,
-    },
-    Match {
-        leaf: "e a b",
-        event: "e",
-        vars: &[("X", "a"), ("Y", "b"), ("Z", "c")],
-        matches: true,
-    },
-    Match {
-        leaf: "e a b",
-        event: "e",
-        vars: &[("Y", "b"), ("X", "a")],
-        matches: false,
-    },
-    Match {
-        leaf: "e a b",
-        event: "e",
-        vars: &[("X", "a")],
-        matches: false,
-    },
-    Match {
-        leaf: "e Y=b X=a",
-        event: "e",
-        vars: &[("X", "a"), ("Y", "b")],
-        matches: true,
-    },
-    Match {
-        leaf: "e a Y=b",
-        event: "e",
-        vars: &[("X", "a")],
-        matches: false,
-    },
-];
-
-const PATTERNS: &'static [Match] = &[
-    Match {
-        leaf: "e tty[!0-9]*",
-        event: "e",
-        vars: &[("D", "ttyS0")],
-        matches: true,
-    },
-    Match {
-        leaf: "e tty[!0-9]*",
-        event: "e",
-        vars: &[("D", "tty1")],
-        matches: false,
-    },
-    Match {
-        leaf: "e X=*",
-        event: "e",
-        vars: &[("X", "")],
-        matches: true,
-    },
-    Match {
-        leaf: "e X=*",
-        event: "e",
-        vars: &[],
-        matches: false,
-    },
-    Match {
-        leaf: "e X!=*",
-        event: "e",
-        vars: &[],
-        matches: true,
-    },
-    Match {
-        leaf: "e X!=*",
-        event: "e",
-        vars: &[("X", "a")],
-        matches: false,
-    },
-];
-
-const EXPANSIONS: &'static [Match] = &[
-    Match {
-        leaf: "A X=${Z-1}",
-        event: "A",
-        vars: &[("X", "2")],
-        matches: false,
-    },
-    Match {
-        leaf: "A X=${Z-1}",
-        event: "A",
-        vars: &[("X", "1")],
-        matches: true,
-    },
-    Match {
-        leaf: "e ${K:-x}$J",
-        event: "e",
-        vars: &[("X", "xy")],
-        matches: true,
-    },
-    Match {
-        leaf: "e X=$J",
-        event: "e",
-        vars: &[("X", "$J")],
-        matches: false,
-    },
-    Match {
-        leaf: "e X=$K",
-        event: "e",
-        vars: &[("X", "")],
-        matches: true,
-    },
-    Match {
-        leaf: "e X!=$J",
-        event: "e",
-        vars: &[("X", "y")],
-        matches: false,
-    },
-    Match {
-        leaf: "e X=$Z",
-        event: "e",
-        vars: &[("X", "")],
-        matches: false,
-    },
-    Match {
-        leaf: "e X!=$Z",
-        event: "e",
-        vars: &[],
-        matches: false,
-    },
-    Match {
-        leaf: "e X=$P",
-        event: "e",
-        vars: &[("X", "[[:x]")],
-        matches: false,
-    },
-    Match {
-        leaf: "e X!=$P",
-        event: "e",
-        vars: &[("X", "a")],
-        matches: false,
-    },
-];
-
 // `K` is empty, and `P` no supported pattern.
-const ENVIRONMENT: &'static [(&'static str, &'static str)] = &[
-    ("K", ""),
-    ("J", "y"),
-    ("P", "[[:x]"),
-];
+const ENVIRONMENT: &'static [Pair] = &[("K", ""), ("J", "y"), ("P", "[[:x]")];
+
+// In each row a leaf, and an event with its variables that it matches with these keys, or that it doesn't.
+const MATCHES: &'static str = "\
+# Names and values.
+stopped a RESULT!=ok|matches|stopped JOB=a
+stopped a RESULT!=ok|differs|stopped JOB=a RESULT=ok
+stopped a RESULT!=ok|matches|stopped JOB=a RESULT=failed
+stopped a RESULT!=ok|differs|stopped JOB=b
+stopped a|differs|started JOB=a
+e|matches|e X=a
+e a b|matches|e X=a Y=b Z=c
+e a b|differs|e Y=b X=a
+e a b|differs|e X=a
+e Y=b X=a|matches|e X=a Y=b
+e a Y=b|differs|e X=a
+# Patterns.
+e tty[!0-9]*|matches|e D=ttyS0
+e tty[!0-9]*|differs|e D=tty1
+e X=*|matches|e X=
+e X=*|differs|e
+e X!=*|matches|e
+e X!=*|differs|e X=a
+# Expansions.
+A X=${Z-1}|differs|A X=2
+A X=${Z-1}|matches|A X=1
+e ${K:-x}$J|matches|e X=xy
+e X=$J|differs|e X=$J
+e X=$K|matches|e X=
+e X!=$J|differs|e X=y
+e X=$Z|differs|e X=
+e X!=$Z|differs|e
+e X=$P|differs|e X=[[:x]
+e X!=$P|differs|e X=a
+";
 
 // Where one allocation is made to fail, the next call answers the same.
 fn matches(
@@ -521,135 +306,164 @@ fn matches(
     }
 }
 
-// Whether a leaf matches an event with these variables, or doesn't, as the case says.
-fn is_match(alloc: Global, leaf: &Leaf, vars: &Env, case: &Match) -> Result<bool, Fail> {
-    let event = Name::new(alloc, case.event)?;
-    let env = env_of(alloc, ENVIRONMENT)?;
-    Ok(matches(alloc, leaf, &event, vars, &env) == Ok(case.matches))
-}
-
-// The same for the leaf that an expression is.
-fn is_leaf_match(alloc: Global, condition: &Condition, case: &Match) -> Result<bool, Fail> {
-    match condition.root().root() {
-        Root::Leaf(leaf) => {
-            let vars = env_of(alloc, case.vars)?;
-            is_match(alloc, leaf, &vars, case)
+// Sets the variables among words, each `KEY=VALUE`.
+fn set_vars(vars: &mut Env, words: &str) -> Result<(), TextFault> {
+    for word in words.split(' ') {
+        if let Some((key, value)) = word.split_once('=') {
+            vars.set(key, value)?;
         }
-        Root::And(_, _) | Root::Or(_, _) => Ok(false),
     }
+    Ok(())
 }
 
-fn holds(alloc: Global, case: &Match) -> Result<bool, Fail> {
-    match parse(alloc, case.leaf)? {
-        Ok(condition) => is_leaf_match(alloc, &condition, case),
+// Whether a leaf matches the event of these words, or doesn't.
+fn answers_with(
+    alloc: Global,
+    leaf: &Leaf,
+    words: &str,
+    vars: &Env,
+    env: &Env,
+    matched: bool,
+) -> Result<bool, Fail> {
+    let event = Name::new(alloc, next_word(words).0)?;
+    let found = matches(alloc, leaf, &event, vars, env);
+    drop(event);
+    Ok(found == Ok(matched))
+}
+
+fn answers(
+    alloc: Global,
+    leaf: &Leaf,
+    words: &str,
+    env: &Env,
+    matched: bool,
+) -> Result<bool, Fail> {
+    let mut vars = Env::new(alloc);
+    let answers = match set_vars(&mut vars, words) {
+        Ok(()) => answers_with(alloc, leaf, words, &vars, env, matched),
+        Err(fault) => Err(Fail::from(fault)),
+    };
+    drop(vars);
+    answers
+}
+
+fn is_match(alloc: Global, row: &str, env: &Env) -> Result<bool, Fail> {
+    let Some((leaf, answer, words)) = fields(row) else {
+        return Ok(row.starts_with('#'));
+    };
+    match parse(alloc, leaf)? {
+        Ok(condition) => {
+            let answered = match condition.root().root() {
+                Root::Leaf(leaf) => answers(alloc, leaf, words, env, answer == "matches"),
+                Root::And(_, _) | Root::Or(_, _) => Ok(false),
+            };
+            drop(condition);
+            answered
+        }
         Err(_) => Ok(false),
     }
 }
 
-fn check_matches(alloc: Global, cases: &[Match]) -> Result<(), Fail> {
-    for (place, case) in cases.iter().enumerate() {
-        if !holds(alloc, case)? {
-            return Err(Fail::new(format_args!("case {place}: {}", case.leaf)));
+fn check_matches(alloc: Global, rows: &'static str, env: &Env) -> Result<(), Fail> {
+    for row in rows.lines() {
+        if !is_match(alloc, row, env)? {
+            return Err(Fail::from(row));
+        }
+    }
+    Ok(())
+}
+
+// A leaf of the event e that no file may have: its variable X must not be a value, and another value may follow. An event, and whether it matches.
+struct Made {
+    differs: &'static str,
+    place: Option<&'static str>,
+    event: &'static str,
+    matches: bool,
+}
+
+const MADE: &'static [Made] = &[
+    // A malformed value fails its leaf too, also if it must not match.
+    Made {
+        differs: "${Z",
+        place: None,
+        event: "e",
+        matches: false,
+    },
+    Made {
+        differs: "${5}",
+        place: None,
+        event: "e",
+        matches: false,
+    },
+    Made {
+        differs: "[[:x]",
+        place: None,
+        event: "e",
+        matches: false,
+    },
+    // The first positional value is for the first variable, whatever stands before it.
+    Made {
+        differs: "b",
+        place: Some("a"),
+        event: "e X=a",
+        matches: true,
+    },
+    Made {
+        differs: "b",
+        place: Some("c"),
+        event: "e X=a",
+        matches: false,
+    },
+];
+
+fn push_tests(alloc: Global, values: &mut Vec<Test>, case: &Made) -> Result<(), AllocError> {
+    let key = Text::from_str(alloc, "X")?;
+    let value = Text::from_str(alloc, case.differs)?;
+    values.push(Test::Differs(key, value))?;
+    if let Some(value) = case.place {
+        let value = Text::from_str(alloc, value)?;
+        values.push(Test::Place(value))?;
+    }
+    Ok(())
+}
+
+fn leaf_of(alloc: Global, case: &Made) -> Result<Leaf, TextFault> {
+    let event = Name::new(alloc, "e")?;
+    let mut values = Vec::new(alloc);
+    match push_tests(alloc, &mut values, case) {
+        Ok(()) => Ok(Leaf {
+            event,
+            values: Items::new(values),
+        }),
+        Err(refused) => {
+            drop(event);
+            drop(values);
+            Err(TextFault::from(refused))
+        }
+    }
+}
+
+fn check_made(alloc: Global, cases: &[Made], env: &Env) -> Result<(), Fail> {
+    for case in cases {
+        let leaf = leaf_of(alloc, case)?;
+        let answers = answers(alloc, &leaf, case.event, env, case.matches);
+        drop(leaf);
+        if !answers? {
+            return Err(Fail::from(case.differs));
         }
     }
     Ok(())
 }
 
 #[test]
-fn leaves_match_names_and_values(rt: HostRuntime) -> Result<(), Fail> {
-    check_matches(rt.alloc(), PLAIN)
-}
-
-#[test]
-fn values_are_patterns(rt: HostRuntime) -> Result<(), Fail> {
-    check_matches(rt.alloc(), PATTERNS)
-}
-
-#[test]
-fn values_expand(rt: HostRuntime) -> Result<(), Fail> {
-    check_matches(rt.alloc(), EXPANSIONS)
-}
-
-// A leaf of the event e whose variable X must not match this value.
-fn differing(alloc: Global, value: &str) -> Result<Leaf, Fail> {
-    let key = Text::from_str(alloc, "X")?;
-    let value = Text::from_str(alloc, value)?;
-    let values = vec![in alloc; Test::Differs(key, value)]?;
-    let event = Name::new(alloc, "e")?;
-    Ok(Leaf {
-        event,
-        values: Items::new(values),
-    })
-}
-
-const NO_VALUES: &'static Match = &Match {
-    leaf: "",
-    event: "e",
-    vars: &[],
-    matches: false,
-};
-
-fn fails(alloc: Global, value: &str) -> Result<bool, Fail> {
-    let leaf = differing(alloc, value)?;
-    is_match(alloc, &leaf, &Env::new(alloc), NO_VALUES)
-}
-
-// A value that no expression may have fails its leaf too, also if it must not match.
-#[test]
-fn malformed_values_fail(rt: HostRuntime) -> Result<(), Fail> {
-    for value in ["${Z", "${5}", "[[:x]"] {
-        assert!(rt; fails(rt.alloc(), value)?, "{value:?}");
-    }
-    Ok(())
-}
-
-// A leaf of the event e whose variable X must not be b, with this positional value after: no file says so, but a leaf may.
-fn keyed_first(alloc: Global, value: &str) -> Result<Leaf, Fail> {
-    let key = Text::from_str(alloc, "X")?;
-    let other = Text::from_str(alloc, "b")?;
-    let value = Text::from_str(alloc, value)?;
-    let values = vec![in alloc; Test::Differs(key, other), Test::Place(value)]?;
-    let event = Name::new(alloc, "e")?;
-    Ok(Leaf {
-        event,
-        values: Items::new(values),
-    })
-}
-
-const FIRST_VALUE: &'static Match = &Match {
-    leaf: "",
-    event: "e",
-    vars: &[("X", "a")],
-    matches: true,
-};
-
-fn meets_first(alloc: Global, value: &str) -> Result<bool, Fail> {
-    let leaf = keyed_first(alloc, value)?;
-    let vars = env_of(alloc, FIRST_VALUE.vars)?;
-    is_match(alloc, &leaf, &vars, FIRST_VALUE)
-}
-
-// The first positional value is for the first variable, whatever stands before it.
-#[test]
-fn keyed_values_are_not_counted(rt: HostRuntime) -> Result<(), Fail> {
-    assert!(rt; meets_first(rt.alloc(), "a")?);
-    assert!(rt; !meets_first(rt.alloc(), "c")?);
-    Ok(())
-}
-
-const STOPPED: &'static [Match] = &[Match {
-    leaf: "stopped a RESULT!=ok",
-    event: "stopped",
-    vars: &[("JOB", "a")],
-    matches: true,
-}];
-
-const REFUSED: &'static [(&'static str, u8)] = &[("x K=v w", 9), ("x and", 8)];
-
-#[test]
-fn expansion_and_patterns(rt: HostRuntime) -> Result<(), Fail> {
-    check_matches(rt.alloc(), STOPPED)?;
-    check_refused(rt.alloc(), REFUSED)
+fn leaves_match(rt: HostRuntime) -> Result<(), Fail> {
+    let env = env_of(rt.alloc(), ENVIRONMENT)?;
+    let checked = match check_matches(rt.alloc(), MATCHES, &env) {
+        Ok(()) => check_made(rt.alloc(), MADE, &env),
+        Err(fail) => Err(fail),
+    };
+    drop(env);
+    checked
 }
 
 const FAULTS: &'static [(ExprFault, u8, &'static str)] = &[
@@ -662,19 +476,16 @@ const FAULTS: &'static [(ExprFault, u8, &'static str)] = &[
     (ExprFault::Memory, 42, "Memory"),
 ];
 
-fn is_printed(alloc: Global, fault: ExprFault, name: &str) -> Result<bool, AllocError> {
-    let printed = format!(in alloc; "{fault}")?;
-    Ok(printed.as_str() == name)
-}
-
-fn is_named(alloc: Global, fault: ExprFault, number: u8, name: &str) -> Result<bool, AllocError> {
-    Ok(fault.number() == number && is_printed(alloc, fault, name)?)
+fn check_faults(alloc: Global, faults: &[(ExprFault, u8, &'static str)]) -> Result<(), Fail> {
+    for case in faults {
+        if case.0.number() != case.1 || !is_printed(alloc, case.0, case.2)? {
+            return Err(Fail::from(case.2));
+        }
+    }
+    Ok(())
 }
 
 #[test]
 fn faults(rt: HostRuntime) -> Result<(), Fail> {
-    for (fault, number, name) in FAULTS {
-        assert!(rt; is_named(rt.alloc(), *fault, *number, name)?, "{name}");
-    }
-    Ok(())
+    check_faults(rt.alloc(), FAULTS)
 }

@@ -33,60 +33,86 @@ fn expr_of(alloc: Global) -> Result<Expr, Fail>
     Ok(Expr::And(boxed_leaf(alloc, "a")?, right))
 }
 
-// What a node says: an event's name, or an operator and its sides.
-fn says(alloc: Global, node: &Node) -> Result<String, AllocError> {
-    match node {
-        Node::Leaf(leaf) => String::from_str(alloc, leaf.event.as_str()),
-        Node::And(left, right) => format!(in alloc; "and {left} {right}"),
-        Node::Or(left, right) => format!(in alloc; "or {left} {right}"),
-    }
+// What a node is: the leaf of an event, or an operator with its sides.
+enum Said {
+    Leaf(&'static str),
+    And(u16, u16),
+    Or(u16, u16),
 }
 
 const TREE: &'static str = "(a and (b or c))";
 
-const SAID: &'static [&'static str] = &["a", "b", "c", "or 1 2", "and 0 3"];
+const NODES: &'static [Said] = &[
+    Said::Leaf("a"),
+    Said::Leaf("b"),
+    Said::Leaf("c"),
+    Said::Or(1, 2),
+    Said::And(0, 3),
+];
 
-// Whether nodes say this, one after another.
-fn say(alloc: Global, nodes: &Nodes, said: &[&str]) -> Result<bool, AllocError> {
-    for (node, words) in nodes.as_slice().iter().zip(said) {
-        if says(alloc, node)?.as_str() != *words {
-            return Ok(false);
+fn is_said(node: &Node, said: &Said) -> bool {
+    match said {
+        Said::Leaf(event) => matches!(node, Node::Leaf(leaf) if leaf.event.as_str() == *event),
+        Said::And(first, second) => {
+            matches!(node, Node::And(left, right) if left == first && right == second)
+        }
+        Said::Or(first, second) => {
+            matches!(node, Node::Or(left, right) if left == first && right == second)
         }
     }
-    Ok(nodes.len() == said.len())
+}
+
+// Whether nodes are these, one after another.
+fn are_said(nodes: &Nodes, said: &[Said]) -> bool {
+    let list = nodes.as_slice();
+    if list.len() != said.len() || nodes.len() != said.len() {
+        return false;
+    }
+    for at in 0..said.len() {
+        if !is_said(&list[at], &said[at]) {
+            return false;
+        }
+    }
+    true
+}
+
+// Whether the nodes of a condition are these, and it is written so.
+fn shows(
+    alloc: Global,
+    condition: &Condition,
+    said: &[Said],
+    tree: &str,
+) -> Result<bool, AllocError> {
+    Ok(are_said(condition.nodes(), said) && is_written(alloc, condition, tree)?)
+}
+
+// Whether the expression is laid flat, and a condition made of it, both as they should be.
+fn is_made(alloc: Global, expr: &Expr) -> Result<bool, Fail>
+    requires { size (tree_of expr.now) ≡ 5 }
+{
+    let nodes = flatten(alloc, expr)?;
+    let flat = are_said(&nodes, NODES);
+    drop(nodes);
+    let condition = Condition::new(alloc, expr)?;
+    let shows = shows(alloc, &condition, NODES, TREE);
+    drop(condition);
+    Ok(flat && shows?)
 }
 
 #[test]
 fn an_expression_is_laid_flat(rt: HostRuntime) -> Result<(), Fail> {
     let expr = expr_of(rt.alloc())?;
-    let nodes = flatten(rt.alloc(), &expr)?;
-    assert!(rt; say(rt.alloc(), &nodes, SAID)?);
-    Ok(())
-}
-
-// Whether the nodes of a condition say this, and it is written so.
-fn shows(alloc: Global, condition: &Condition, said: &[&str], tree: &str) -> Result<bool, Fail> {
-    Ok(say(alloc, condition.nodes(), said)? && is_written(alloc, condition, tree)?)
-}
-
-fn is_made(alloc: Global, expr: &Expr) -> Result<bool, Fail>
-    requires { size (tree_of expr.now) ≡ 5 }
-{
-    let condition = Condition::new(alloc, expr)?;
-    shows(alloc, &condition, SAID, TREE)
-}
-
-#[test]
-fn a_condition_is_made_of_an_expression(rt: HostRuntime) -> Result<(), Fail> {
-    let expr = expr_of(rt.alloc())?;
-    assert!(rt; is_made(rt.alloc(), &expr)?);
+    let made = is_made(rt.alloc(), &expr);
+    drop(expr);
+    assert!(rt; made?);
     Ok(())
 }
 
 // Whether one leaf alone is joined.
 fn joins_one(alloc: Global) -> Result<bool, Fail> {
+    let leaf = leaf_of(alloc, "b")?;
     let mut builder = Builder::new(alloc);
-    builder.leaf(leaf_of(alloc, "b")?)?;
+    builder.leaf(leaf)?;
     Ok(builder.join(true)?)
 }
 
@@ -101,14 +127,16 @@ fn built(alloc: Global, both: bool) -> Result<Condition, Fail> {
     Ok(builder.finish())
 }
 
-fn is_built(alloc: Global, both: bool, said: &[&str], tree: &str) -> Result<bool, Fail> {
+fn is_built(alloc: Global, both: bool, said: &[Said], tree: &str) -> Result<bool, Fail> {
     let condition = built(alloc, both)?;
-    shows(alloc, &condition, said, tree)
+    let shows = shows(alloc, &condition, said, tree);
+    drop(condition);
+    Ok(shows?)
 }
 
-const EITHER: &'static [&'static str] = &["b", "c", "or 0 1"];
+const EITHER: &'static [Said] = &[Said::Leaf("b"), Said::Leaf("c"), Said::Or(0, 1)];
 
-const BOTH: &'static [&'static str] = &["b", "c", "and 0 1"];
+const BOTH: &'static [Said] = &[Said::Leaf("b"), Said::Leaf("c"), Said::And(0, 1)];
 
 #[test]
 fn a_condition_is_built(rt: HostRuntime) -> Result<(), Fail> {

@@ -1,97 +1,89 @@
 //! Folders that are compiled, and those that are refused.
-use crate::conf::{add, folder_of};
+use crate::conf::{add, add_numbered, folder_of};
+use crate::tables::is_printed;
 use std::alloc::{AllocError, Global};
 use std::test::Fail;
 use up_conf::{Folder, Report};
 use up_image::{CompileError, Table, compile};
 
 // Adds files with these paths, each with an `exec`.
-fn add_paths(alloc: Global, folder: &mut Folder, paths: &[&str]) -> Result<(), AllocError> {
-    for path in paths {
-        add(alloc, folder, *path, b"exec x\n")?;
+fn add_paths(alloc: Global, folder: &mut Folder, paths: &str) -> Result<(), AllocError> {
+    for path in paths.split(' ') {
+        add(alloc, folder, path, b"exec x\n")?;
     }
     Ok(())
 }
 
-// Whether a folder of files with these paths, each with an `exec`, is refused for a path that stands twice.
-fn has_same_name(alloc: Global, paths: &[&str]) -> Result<bool, AllocError> {
-    let mut folder = Folder::new(alloc);
-    let refused = match add_paths(alloc, &mut folder, paths) {
-        Ok(()) => Ok(is_refused(alloc, &folder, CompileError::SameName)),
-        Err(refused) => Err(refused),
-    };
-    drop(folder);
-    refused
-}
+// In each row the paths of a folder's files.
+const TWICE: &'static str = "\
+a.conf a.conf
+a.conf b.conf a.conf
+=.conf =.conf
+net/a.conf net/a.conf
+a.override a.override a.conf
+a.override a.conf b.conf a.override
+.override .override .conf
+";
 
-// The place of the first folder for which it is otherwise.
-fn first_other(
-    alloc: Global,
-    folders: &[&[&str]],
-    same: bool,
-) -> Result<Option<usize>, AllocError> {
-    for (place, paths) in folders.iter().enumerate() {
-        if has_same_name(alloc, paths)? != same {
-            return Ok(Some(place));
+const ONCE: &'static str = "\
+a.conf a.override b.conf
+a.override a.override
+a.override a.override b.conf
+net/a.override net/a.override a.conf
+a.txt a.txt conf conf a.CONF a.CONF
+a.conf net/a.conf A.conf
+override override conf
+";
+
+// Whether each folder is refused for a path that stands twice, or none is.
+fn check_paths(alloc: Global, rows: &'static str, same: bool) -> Result<(), Fail> {
+    for row in rows.lines() {
+        let mut folder = Folder::new(alloc);
+        let refused = match add_paths(alloc, &mut folder, row) {
+            Ok(()) => Ok(is_refused(alloc, &folder, CompileError::SameName)),
+            Err(refused) => Err(refused),
+        };
+        drop(folder);
+        if refused? != same {
+            return Err(Fail::from(row));
         }
     }
-    Ok(None)
+    Ok(())
 }
 
-const TWICE: &'static [&'static [&'static str]] = &[
-    &["a.conf", "a.conf"],
-    &["a.conf", "b.conf", "a.conf"],
-    &["=.conf", "=.conf"],
-    &["net/a.conf", "net/a.conf"],
-    &["a.override", "a.override", "a.conf"],
-    &["a.override", "a.conf", "b.conf", "a.override"],
-    &[".override", ".override", ".conf"],
-];
-
+// One that isn't read may stand twice.
 #[test]
 fn a_path_that_is_read_stands_once(rt: HostRuntime) -> Result<(), Fail> {
-    assert_eq!(rt; first_other(rt.alloc(), TWICE, true)?, None);
-    Ok(())
-}
-
-const ONCE: &'static [&'static [&'static str]] = &[
-    &["a.conf", "a.override", "b.conf"],
-    &["a.override", "a.override"],
-    &["a.override", "a.override", "b.conf"],
-    &["net/a.override", "net/a.override", "a.conf"],
-    &["a.txt", "a.txt", "conf", "conf", "a.CONF", "a.CONF"],
-    &["a.conf", "net/a.conf", "A.conf"],
-    &["override", "override", "conf"],
-];
-
-#[test]
-fn a_path_that_is_not_read_may_stand_twice(rt: HostRuntime) -> Result<(), Fail> {
-    assert_eq!(rt; first_other(rt.alloc(), ONCE, false)?, None);
-    Ok(())
+    check_paths(rt.alloc(), TWICE, true)?;
+    check_paths(rt.alloc(), ONCE, false)
 }
 
 // Whether a table lends at its places jobs of these names, each a task or not.
 fn lends(table: &Table, named: &[(&str, bool)]) -> bool {
-    for (i, (name, task)) in named.iter().enumerate() {
-        if i >= table.len() {
-            return false;
-        }
-        let job = table.job(i);
-        if job.name.as_str() != *name || job.task != *task {
+    if table.len() != named.len() || table.as_slice().len() != named.len() {
+        return false;
+    }
+    for at in 0..named.len() {
+        let job = table.job(at);
+        if job.name.as_str() != named[at].0 || job.task != named[at].1 {
             return false;
         }
     }
-    table.len() == named.len() && table.as_slice().len() == named.len()
+    true
 }
 
 // Whether these files, and no others, are faulty.
 fn tells(report: &Report, paths: &[&str]) -> bool {
-    for (fault, path) in report.as_slice().iter().zip(paths) {
-        if !fault.path.is(*path) {
+    let faults = report.as_slice();
+    if report.len() != paths.len() || faults.len() != paths.len() {
+        return false;
+    }
+    for at in 0..paths.len() {
+        if !faults[at].path.is(paths[at]) {
             return false;
         }
     }
-    report.len() == paths.len()
+    true
 }
 
 // Whether a folder gives these jobs, each a task or not, and these faulty files.
@@ -143,28 +135,16 @@ const BY_NAME: &'static [(&'static str, bool)] = &[
 
 const FAULTY: &'static [&'static str] = &["x=.conf", "z.conf"];
 
-#[test]
-fn a_table_lends_its_jobs_by_name(rt: HostRuntime) -> Result<(), Fail> {
-    assert!(rt; are_named(rt.alloc(), FIVE_JOBS, BY_NAME, FAULTY)?);
-    Ok(())
-}
-
 const NO_JOBS: &'static [(&'static str, &'static [u8])] = &[
     ("a.override", b"setuid root\n"),
     ("a.override", b"setuid root\n"),
 ];
 
+// An empty folder has no job.
 #[test]
-fn an_empty_folder_has_no_job(rt: HostRuntime) -> Result<(), Fail> {
+fn a_table_lends_its_jobs_by_name(rt: HostRuntime) -> Result<(), Fail> {
+    assert!(rt; are_named(rt.alloc(), FIVE_JOBS, BY_NAME, FAULTY)?);
     assert!(rt; are_named(rt.alloc(), NO_JOBS, &[], &[])?);
-    Ok(())
-}
-
-fn add_1024_jobs(alloc: Global, folder: &mut Folder) -> Result<(), AllocError> {
-    for n in 0..1024u32 {
-        let path = format!(in alloc; "{n}.conf")?;
-        add(alloc, folder, path.as_str(), b"exec x\n")?;
-    }
     Ok(())
 }
 
@@ -193,9 +173,23 @@ fn is_refused(alloc: Global, folder: &Folder, error: CompileError) -> bool {
     }
 }
 
+// Adds files whose paths are numbers and this end.
+fn add_many(
+    alloc: Global,
+    folder: &mut Folder,
+    count: u32,
+    end: &str,
+    bytes: &[u8],
+) -> Result<(), AllocError> {
+    for n in 0..count {
+        add_numbered(alloc, folder, n, end, bytes)?;
+    }
+    Ok(())
+}
+
 // Whether a folder of 1,024 jobs is compiled, with a faulty file too, and refused with a job more, and with a path twice.
 fn are_the_most(alloc: Global, folder: &mut Folder) -> Result<bool, AllocError> {
-    add_1024_jobs(alloc, folder)?;
+    add_many(alloc, folder, 1024, ".conf", b"exec x\n")?;
     if !gives(alloc, folder, 1024, 0) {
         return Ok(false);
     }
@@ -220,19 +214,11 @@ fn a_table_has_1024_jobs(rt: HostRuntime) -> Result<(), Fail> {
     Ok(())
 }
 
-fn add_65535_files(alloc: Global, folder: &mut Folder) -> Result<(), AllocError> {
-    for n in 0..32_767u32 {
-        let conf = format!(in alloc; "{n}.conf")?;
-        add(alloc, folder, conf.as_str(), b"")?;
-        let over = format!(in alloc; "{n}.override")?;
-        add(alloc, folder, over.as_str(), b"")?;
-    }
-    add(alloc, folder, "last.conf", b"")
-}
-
-// Whether so many, of which one stands twice, are refused for it.
+// Whether 65,535 files, and one that stands twice, are refused for it.
 fn are_compared(alloc: Global, folder: &mut Folder) -> Result<bool, AllocError> {
-    add_65535_files(alloc, folder)?;
+    add_many(alloc, folder, 32_767, ".conf", b"")?;
+    add_many(alloc, folder, 32_767, ".override", b"")?;
+    add(alloc, folder, "last.conf", b"")?;
     add(alloc, folder, "0.override", b"")?;
     Ok(is_refused(alloc, folder, CompileError::SameName))
 }
@@ -254,20 +240,23 @@ const REFUSALS: &'static [(CompileError, u8, &'static str)] = &[
     (CompileError::Memory, 42, "Memory"),
 ];
 
-fn is_called(
+fn check_refusals(
     alloc: Global,
-    error: CompileError,
-    number: u8,
-    name: &str,
-) -> Result<bool, AllocError> {
-    let text = format!(in alloc; "{error}")?;
-    Ok(error.number() == number && error.name() == name && text.as_str() == name)
+    refusals: &[(CompileError, u8, &'static str)],
+) -> Result<(), Fail> {
+    for case in refusals {
+        let error = case.0;
+        if error.number() != case.1
+            || error.name() != case.2
+            || !is_printed(alloc, error, case.2)?
+        {
+            return Err(Fail::from(case.2));
+        }
+    }
+    Ok(())
 }
 
 #[test]
 fn refusals_have_numbers_and_names(rt: HostRuntime) -> Result<(), Fail> {
-    for (error, number, name) in REFUSALS {
-        assert!(rt; is_called(rt.alloc(), *error, *number, name)?, "{name}");
-    }
-    Ok(())
+    check_refusals(rt.alloc(), REFUSALS)
 }

@@ -14,7 +14,10 @@ mod flat;
 mod image;
 #[cfg(test)]
 mod model;
+#[cfg(test)]
 mod signals;
+#[cfg(test)]
+mod tables;
 #[cfg(test)]
 mod text;
 #[cfg(test)]

@@ -52,55 +52,6 @@ fn is_event(event: &Event) -> bool {
     event.name.as_str() == "go" && are_vars(&event.vars)
 }
 
-// Large values are dropped by a call, here and below: the prover would go through each field of what a scope drops.
-fn who_is_copied(who: &Who) -> Result<bool, AllocError> {
-    let copied = who.copy()?;
-    let is_who = is_who(&copied);
-    drop(copied);
-    Ok(is_who)
-}
-
-fn event_is_copied(event: &Event) -> Result<bool, AllocError> {
-    let copied = event.copy()?;
-    let is_event = is_event(&copied);
-    drop(copied);
-    Ok(is_event)
-}
-
-fn request_is_copied(request: &Request) -> Result<bool, AllocError> {
-    let copied = request.copy()?;
-    let is_request = is_request(&copied);
-    drop(copied);
-    Ok(is_request)
-}
-
-#[test]
-fn instances_are_copied(rt: HostRuntime) -> Result<(), Fail> {
-    let who = who(rt.alloc())?;
-    let copied = who_is_copied(&who);
-    drop(who);
-    assert!(rt; copied?);
-    Ok(())
-}
-
-#[test]
-fn events_are_copied(rt: HostRuntime) -> Result<(), Fail> {
-    let event = event(rt.alloc())?;
-    let copied = event_is_copied(&event);
-    drop(event);
-    assert!(rt; copied?);
-    Ok(())
-}
-
-#[test]
-fn requests_are_copied(rt: HostRuntime) -> Result<(), Fail> {
-    let request = request(rt.alloc())?;
-    let copied = request_is_copied(&request);
-    drop(request);
-    assert!(rt; copied?);
-    Ok(())
-}
-
 const PROCESS: Process = Process::PostStop;
 
 // The table of a folder with one job.
@@ -184,11 +135,36 @@ fn is_input(kind: u8, input: &Input) -> bool {
     }
 }
 
+// Large values are dropped by a call, here and below: the prover would go through each field of what a scope drops.
+fn part_is_copied(input: &Input) -> Result<bool, AllocError> {
+    match input {
+        Input::Request { request, .. } => {
+            let copied = request.copy()?;
+            let is_request = is_request(&copied);
+            drop(copied);
+            Ok(is_request)
+        }
+        Input::Emit(event) => {
+            let copied = event.copy()?;
+            let is_event = is_event(&copied);
+            drop(copied);
+            Ok(is_event)
+        }
+        Input::Spawned { who, .. } => {
+            let copied = who.copy()?;
+            let is_who = is_who(&copied);
+            drop(copied);
+            Ok(is_who)
+        }
+        _ => Ok(true),
+    }
+}
+
 fn copy_is_input(alloc: Global, kind: u8, input: &Input) -> Result<bool, AllocError> {
     let copied = input.copy(alloc)?;
     let is_input = is_input(kind, &copied);
     drop(copied);
-    Ok(is_input)
+    Ok(is_input && part_is_copied(input)?)
 }
 
 fn input_is_copied(alloc: Global, kind: u8) -> Result<bool, TextFault> {
@@ -198,12 +174,19 @@ fn input_is_copied(alloc: Global, kind: u8) -> Result<bool, TextFault> {
     Ok(copied?)
 }
 
-#[test]
-fn copies_of_inputs(rt: HostRuntime) -> Result<(), Fail> {
+fn check_inputs(alloc: Global) -> Result<(), Fail> {
     for kind in 0..10u8 {
-        assert!(rt; input_is_copied(rt.alloc(), kind)?, "kind {kind}");
+        if !input_is_copied(alloc, kind)? {
+            return Err(Fail::new(format_args!("kind {kind}")));
+        }
     }
     Ok(())
+}
+
+// Inputs, and the instances, events and requests that are parts of them.
+#[test]
+fn copies_of_inputs(rt: HostRuntime) -> Result<(), Fail> {
+    check_inputs(rt.alloc())
 }
 
 fn argv(alloc: Global) -> Result<Items<Text>, AllocError> {
@@ -223,17 +206,10 @@ fn order(alloc: Global) -> Result<Order, TextFault> {
     })
 }
 
-fn is_argv(argv: &[Text]) -> bool {
-    match argv {
-        [word] => word.is("/bin/d"),
-        _ => false,
-    }
-}
-
 fn is_order(order: &Order) -> bool {
     is_who(&order.who)
         && order.process == PROCESS
-        && is_argv(order.argv.as_slice())
+        && matches!(order.argv.as_slice(), [word] if word.is("/bin/d"))
         && order.dir.is("/")
         && order.silent
         && are_vars(&order.env)
@@ -278,11 +254,21 @@ fn is_output(kind: u8, output: &Output) -> bool {
     }
 }
 
+fn answer_is_copied(output: &Output) -> Result<bool, AllocError> {
+    let Output::Reply { answer, .. } = output else {
+        return Ok(true);
+    };
+    let copied = answer.copy()?;
+    let is_answer = is_answer(&copied);
+    drop(copied);
+    Ok(is_answer)
+}
+
 fn copy_is_output(alloc: Global, kind: u8, output: &Output) -> Result<bool, AllocError> {
     let copied = output.copy(alloc)?;
     let is_output = is_output(kind, &copied);
     drop(copied);
-    Ok(is_output)
+    Ok(is_output && answer_is_copied(output)?)
 }
 
 fn output_is_copied(alloc: Global, kind: u8) -> Result<bool, TextFault> {
@@ -292,20 +278,19 @@ fn output_is_copied(alloc: Global, kind: u8) -> Result<bool, TextFault> {
     Ok(copied?)
 }
 
-#[test]
-fn copies_of_outputs(rt: HostRuntime) -> Result<(), Fail> {
+fn check_outputs(alloc: Global) -> Result<(), Fail> {
     for kind in 0..4u8 {
-        assert!(rt; output_is_copied(rt.alloc(), kind)?, "kind {kind}");
+        if !output_is_copied(alloc, kind)? {
+            return Err(Fail::new(format_args!("kind {kind}")));
+        }
     }
     Ok(())
 }
 
+// Outputs, and the answer that is a part of one.
 #[test]
-fn answers_are_copied(rt: HostRuntime) -> Result<(), Fail> {
-    let answer = answer(rt.alloc())?;
-    let copied = answer.copy()?;
-    assert!(rt; is_answer(&copied));
-    Ok(())
+fn copies_of_outputs(rt: HostRuntime) -> Result<(), Fail> {
+    check_outputs(rt.alloc())
 }
 
 const COMMANDS: &'static [(Command, &'static str)] = &[
@@ -320,11 +305,17 @@ const COMMANDS: &'static [(Command, &'static str)] = &[
     (Command::Version, "version"),
 ];
 
-#[test]
-fn commands(rt: HostRuntime) {
-    for (command, name) in COMMANDS {
-        assert_eq!(rt; command.name(), *name);
-        assert!(rt; Command::from_name(name) == Some(*command), "{name}");
+fn check_commands(commands: &[(Command, &'static str)]) -> Result<(), Fail> {
+    for case in commands {
+        if case.0.name() != case.1 || Command::from_name(case.1) != Some(case.0) {
+            return Err(Fail::from(case.1));
+        }
     }
+    Ok(())
+}
+
+#[test]
+fn commands(rt: HostRuntime) -> Result<(), Fail> {
     assert!(rt; Command::from_name("stopped").is_none());
+    check_commands(COMMANDS)
 }

@@ -6,176 +6,170 @@ mod fnmatch_table;
 mod lexer;
 mod pattern;
 
+use crate::tables::is_printed;
 use std::alloc::{AllocError, Global};
 use std::test::Fail;
-use up_text::env::{is_key, is_key_byte, is_key_start, is_value};
 use up_text::{Env, Items, Name, Text, TextFault};
 
-const NAMES: &'static [&'static str] = &["a", "net/apache", "x!~"];
-
-const NO_NAMES: &'static [&'static str] = &["", "a b", "a=b", "a(b", "a#", "\u{e9}", "a\"b"];
+// Texts, and whether each is a name.
+const NAMES: &'static [(&'static str, bool)] = &[
+    ("a", true),
+    ("net/apache", true),
+    ("x!~", true),
+    ("", false),
+    ("a b", false),
+    ("a=b", false),
+    ("a(b", false),
+    ("a#", false),
+    ("\u{e9}", false),
+    ("a\"b", false),
+];
 
 // Whether a name bears its text, and is equal to its copy alone.
 fn is_named(name: &Name, text: &str, other: &Name) -> Result<bool, AllocError> {
     let copied = name.copy()?;
-    Ok(name.as_str() == text && copied.is(name) && !other.is(name))
+    let is_same = copied.is(name);
+    drop(copied);
+    Ok(name.as_str() == text && is_same && !other.is(name))
 }
 
-fn is_name(alloc: Global, text: &str, other: &Name) -> Result<bool, TextFault> {
-    let name = Name::new(alloc, text)?;
-    Ok(is_named(&name, text, other)?)
+// Whether a text is a name, or is refused as none.
+fn is_name(alloc: Global, text: &str, named: bool, other: &Name) -> Result<bool, TextFault> {
+    match Name::new(alloc, text) {
+        Ok(name) => {
+            let is_named = is_named(&name, text, other);
+            drop(name);
+            Ok(is_named? && named)
+        }
+        Err(TextFault::BadName) => Ok(!named),
+        Err(fault) => Err(fault),
+    }
+}
+
+fn check_names(alloc: Global, names: &[(&'static str, bool)], other: &Name) -> Result<(), Fail> {
+    for case in names {
+        if !is_name(alloc, case.0, case.1, other)? {
+            return Err(Fail::from(case.0));
+        }
+    }
+    Ok(())
 }
 
 #[test]
 fn names(rt: HostRuntime) -> Result<(), Fail> {
     let other = Name::new(rt.alloc(), "b")?;
-    for text in NAMES {
-        assert!(rt; is_name(rt.alloc(), text, &other)?, "{text:?}");
-    }
-    Ok(())
-}
-
-#[test]
-fn refuses_names(rt: HostRuntime) {
-    for text in NO_NAMES {
-        let named = Name::new(rt.alloc(), text);
-        assert!(rt; matches!(named, Err(TextFault::BadName)), "{text:?}");
-    }
+    let checked = check_names(rt.alloc(), NAMES, &other);
+    drop(other);
+    checked
 }
 
 pub(crate) type Pair = (&'static str, &'static str);
 
+fn set_all(env: &mut Env, pairs: &[Pair]) -> Result<(), TextFault> {
+    for pair in pairs {
+        env.set(pair.0, pair.1)?;
+    }
+    Ok(())
+}
+
 // The environment if these keys were set, one after the other.
 pub(crate) fn env_of(alloc: Global, pairs: &[Pair]) -> Result<Env, TextFault> {
     let mut env = Env::new(alloc);
-    for (key, value) in pairs {
-        env.set(key, value)?;
+    match set_all(&mut env, pairs) {
+        Ok(()) => Ok(env),
+        Err(fault) => {
+            drop(env);
+            Err(fault)
+        }
     }
-    Ok(env)
 }
 
+fn is_pair(found: (&str, &str), value: Option<&str>, pair: &Pair) -> bool {
+    match value {
+        Some(value) => found.0 == pair.0 && found.1 == pair.1 && value == pair.1,
+        None => false,
+    }
+}
+
+// Whether these keys, and no others, have these values, in this order.
 fn has_pairs(env: &Env, pairs: &[Pair]) -> bool {
-    for (i, pair) in pairs.iter().enumerate() {
-        if i >= env.len() || env.at(i) != *pair {
+    for (at, pair) in pairs.iter().enumerate() {
+        if at >= env.len() || !is_pair(env.at(at), env.get(pair.0), pair) {
             return false;
         }
     }
-    env.len() == pairs.len()
+    env.len() == pairs.len() && env.is_empty() == pairs.is_empty() && env.get("C").is_none()
 }
 
-const BOTH: &'static [Pair] = &[("A", "3"), ("B", "2")];
-
-const A_TWICE: &'static [Pair] = &[("A", "0"), ("B", "2"), ("A", "3")];
-
-// Whether the keys of `BOTH`, and no others, have values.
-fn gives_both(env: &Env) -> bool {
-    has_pairs(env, BOTH) && !env.is_empty() && env.get("A") == Some("3") && env.get("C") == None
+// Keys that are set, an environment that is appended then, and what both give.
+struct Case {
+    name: &'static str,
+    set: &'static [Pair],
+    appended: &'static [Pair],
+    given: &'static [Pair],
 }
 
-#[test]
-fn keys_are_set(rt: HostRuntime) -> Result<(), Fail> {
-    assert!(rt; gives_both(&env_of(rt.alloc(), A_TWICE)?));
-    Ok(())
-}
-
-#[test]
-fn an_environment_begins_empty(rt: HostRuntime) {
-    let env = Env::new(rt.alloc());
-    assert!(rt; env.is_empty() && has_pairs(&env, &[]));
-}
+const ENVIRONMENTS: &'static [Case] = &[
+    Case {
+        name: "an_environment_begins_empty",
+        set: &[],
+        appended: &[],
+        given: &[],
+    },
+    Case {
+        name: "keys_are_set",
+        set: &[("A", "0"), ("B", "2"), ("A", "3")],
+        appended: &[],
+        given: &[("A", "3"), ("B", "2")],
+    },
+    Case {
+        name: "environments_are_appended",
+        set: &[("A", "1")],
+        appended: &[("A", "3"), ("B", "2")],
+        given: &[("A", "3"), ("B", "2")],
+    },
+];
 
 const BAD_PAIRS: &'static [Pair] = &[("", "x"), ("1a", "x"), ("a-b", "x"), ("A", "x\0y")];
 
-fn is_refused(env: &mut Env, pair: &Pair) -> bool {
-    env.set(pair.0, pair.1) == Err(TextFault::BadName) && has_pairs(env, BOTH)
-}
-
-#[test]
-fn bad_pairs_are_refused(rt: HostRuntime) -> Result<(), Fail> {
-    let mut env = env_of(rt.alloc(), BOTH)?;
-    for pair in BAD_PAIRS {
-        assert!(rt; is_refused(&mut env, pair), "{pair:?}");
+// The key of the first pair that isn't refused.
+fn first_accepted(env: &mut Env, pairs: &[Pair]) -> Option<&'static str> {
+    for pair in pairs {
+        if env.set(pair.0, pair.1) != Err(TextFault::BadName) {
+            return Some(pair.0);
+        }
     }
-    Ok(())
+    None
 }
 
-fn is_copied(env: &Env) -> Result<bool, TextFault> {
+// Whether an environment gives what it should after another is appended, its copy too, and no less after what it refuses.
+fn gives(alloc: Global, env: &mut Env, case: &Case) -> Result<bool, TextFault> {
+    let appended = env_of(alloc, case.appended)?;
+    let done = env.append(&appended);
+    drop(appended);
+    done?;
     let copied = env.copy()?;
-    Ok(has_pairs(&copied, BOTH))
+    let is_copied = has_pairs(&copied, case.given);
+    drop(copied);
+    let accepted = first_accepted(env, BAD_PAIRS);
+    Ok(is_copied && accepted.is_none() && has_pairs(env, case.given))
 }
 
-#[test]
-fn environments_are_copied(rt: HostRuntime) -> Result<(), Fail> {
-    assert!(rt; is_copied(&env_of(rt.alloc(), BOTH)?)?);
+fn check_environments(alloc: Global, cases: &[Case]) -> Result<(), Fail> {
+    for case in cases {
+        let mut env = env_of(alloc, case.set)?;
+        let gives = gives(alloc, &mut env, case);
+        drop(env);
+        if !gives? {
+            return Err(Fail::from(case.name));
+        }
+    }
     Ok(())
 }
 
-const ONE: &'static [Pair] = &[("A", "1")];
-
-fn appends(alloc: Global, added: &Env) -> Result<bool, TextFault> {
-    let mut env = env_of(alloc, ONE)?;
-    env.append(added)?;
-    Ok(has_pairs(&env, BOTH))
-}
-
 #[test]
-fn environments_are_appended(rt: HostRuntime) -> Result<(), Fail> {
-    let added = env_of(rt.alloc(), BOTH)?;
-    assert!(rt; appends(rt.alloc(), &added)?);
-    Ok(())
-}
-
-// Texts, and whether each is a key.
-const KEYS: &'static [(&'static str, bool)] = &[
-    ("A", true),
-    ("_", true),
-    ("a1", true),
-    ("zZ_09", true),
-    ("", false),
-    ("1a", false),
-    ("a-b", false),
-    ("A=", false),
-    ("a ", false),
-    ("\u{e9}", false),
-];
-
-#[test]
-fn keys(rt: HostRuntime) {
-    for (text, is) in KEYS {
-        assert_eq!(rt; is_key(text), *is, "{text:?}");
-    }
-}
-
-// Bytes, whether a key may begin with each, and whether it may have it.
-const KEY_BYTES: &'static [(u8, bool, bool)] = &[
-    (b'_', true, true),
-    (b'z', true, true),
-    (b'A', true, true),
-    (b'0', false, true),
-    (b'9', false, true),
-    (b'-', false, false),
-];
-
-#[test]
-fn bytes_of_keys(rt: HostRuntime) {
-    for (byte, begins, stands) in KEY_BYTES {
-        let found = (is_key_start(*byte), is_key_byte(*byte));
-        assert_eq!(rt; found, (*begins, *stands), "{byte}");
-    }
-}
-
-// Texts, and whether each is a value.
-const VALUES: &'static [(&'static str, bool)] = &[
-    ("", true),
-    ("a = \"\u{e9}\"\n", true),
-    ("a\0", false),
-];
-
-#[test]
-fn values(rt: HostRuntime) {
-    for (text, is) in VALUES {
-        assert_eq!(rt; is_value(text), *is, "{text:?}");
-    }
+fn environments(rt: HostRuntime) -> Result<(), Fail> {
+    check_environments(rt.alloc(), ENVIRONMENTS)
 }
 
 const TEXT: &'static str = "a\u{e9}";
@@ -186,16 +180,11 @@ fn is_text(text: &Text) -> bool {
 
 // Whether a text is copied, and then given back as a string.
 fn is_given_back(text: Text) -> Result<bool, AllocError> {
-    let copied = is_text(&text.copy()?) && is_text(&text.clone()?);
+    let copied = text.copy()?;
+    let cloned = text.clone()?;
+    let are_texts = is_text(&text) && is_text(&copied) && is_text(&cloned);
     let string = text.into_string();
-    Ok(copied && string.as_str() == TEXT && is_text(&Text::new(string)))
-}
-
-#[test]
-fn texts(rt: HostRuntime) -> Result<(), Fail> {
-    let text = Text::from_str(rt.alloc(), TEXT)?;
-    assert!(rt; is_text(&text) && is_given_back(text)?);
-    Ok(())
+    Ok(are_texts && string.as_str() == TEXT && is_text(&Text::new(string)))
 }
 
 const ITEMS: &'static [u8] = &[3, 1];
@@ -205,9 +194,9 @@ fn are_items(items: Items<u8>) -> bool {
 }
 
 #[test]
-fn items(rt: HostRuntime) -> Result<(), Fail> {
-    let items = Items::new(vec![in rt.alloc(); 3, 1]?);
-    assert!(rt; are_items(items));
+fn texts_and_items(rt: HostRuntime) -> Result<(), Fail> {
+    assert!(rt; is_given_back(Text::from_str(rt.alloc(), TEXT)?)?);
+    assert!(rt; are_items(Items::new(vec![in rt.alloc(); 3, 1]?)));
     Ok(())
 }
 
@@ -219,15 +208,16 @@ const FAULTS: &'static [(TextFault, u8, &'static str)] = &[
     (TextFault::Memory, 42, "Memory"),
 ];
 
-fn is_called(alloc: Global, fault: TextFault, number: u8, name: &str) -> Result<bool, AllocError> {
-    let printed = format!(in alloc; "{fault}")?;
-    Ok(fault.number() == number && printed.as_str() == name)
+fn check_faults(alloc: Global, faults: &[(TextFault, u8, &'static str)]) -> Result<(), Fail> {
+    for case in faults {
+        if case.0.number() != case.1 || !is_printed(alloc, case.0, case.2)? {
+            return Err(Fail::from(case.2));
+        }
+    }
+    Ok(())
 }
 
 #[test]
 fn faults(rt: HostRuntime) -> Result<(), Fail> {
-    for (fault, number, name) in FAULTS {
-        assert!(rt; is_called(rt.alloc(), *fault, *number, name)?, "{name}");
-    }
-    Ok(())
+    check_faults(rt.alloc(), FAULTS)
 }

@@ -12,34 +12,37 @@ fn name(alloc: Global) -> Result<Name, AllocError> {
     }
 }
 
-// The job `a` of a file's stanzas and its override.
-fn overridden_by(alloc: Global, conf: &Items<Stanza>, over: &[u8]) -> Result<JobDef, ConfFault> {
-    let over = read_conf(alloc, over)?;
-    let job = match name(alloc) {
-        Ok(name) => apply_override(alloc, name, conf, &over),
-        Err(refused) => Err(refused),
+// The job `a` of a file's stanzas, and of its override if it has one.
+fn job_of_stanzas(
+    alloc: Global,
+    name: Name,
+    conf: &Items<Stanza>,
+    over: Option<&[u8]>,
+) -> Result<JobDef, ConfFault> {
+    let Some(over) = over else {
+        return Ok(job_of(alloc, name, conf)?);
     };
-    drop(over);
-    Ok(job?)
+    match read_conf(alloc, over) {
+        Ok(over) => {
+            let job = apply_override(alloc, name, conf, &over);
+            drop(over);
+            Ok(job?)
+        }
+        Err(fault) => {
+            drop(name);
+            Err(fault)
+        }
+    }
 }
 
-// The job `a` of a file and its override.
-fn overridden(alloc: Global, conf: &[u8], over: &[u8]) -> Result<JobDef, ConfFault> {
+fn job(alloc: Global, conf: &[u8], over: Option<&[u8]>) -> Result<JobDef, ConfFault> {
     let conf = read_conf(alloc, conf)?;
-    let job = overridden_by(alloc, &conf, over);
+    let job = match name(alloc) {
+        Ok(name) => job_of_stanzas(alloc, name, &conf, over),
+        Err(refused) => Err(ConfFault::from(refused)),
+    };
     drop(conf);
     job
-}
-
-// The job `a` of a file alone.
-fn alone(alloc: Global, conf: &[u8]) -> Result<JobDef, ConfFault> {
-    let conf = read_conf(alloc, conf)?;
-    let job = match name(alloc) {
-        Ok(name) => job_of(alloc, name, &conf),
-        Err(refused) => Err(refused),
-    };
-    drop(conf);
-    Ok(job?)
 }
 
 // Something that a job says.
@@ -75,25 +78,21 @@ pub(crate) enum Fact {
     Exits,
 }
 
-fn has_value(setting: &Setting, value: Option<&str>) -> bool {
-    match &setting.value {
+/// Whether a setting has this key and this value.
+pub(crate) fn is_setting(setting: &Setting, key: &str, value: Option<&str>) -> bool {
+    let has_value = match &setting.value {
         Some(found) => value == Some(found.as_str()),
         None => value.is_none(),
-    }
-}
-
-fn is_setting(settings: &[Setting], place: usize, key: &str, value: Option<&str>) -> bool {
-    match settings.get(place) {
-        Some(setting) => setting.key.is(key) && has_value(setting, value),
-        None => false,
-    }
+    };
+    has_value && setting.key.is(key)
 }
 
 // Whether settings are these.
 fn are_settings(settings: &[Setting], expected: &[(&str, Option<&str>)]) -> bool {
-    for (place, (key, value)) in expected.iter().enumerate() {
-        if !is_setting(settings, place, *key, *value) {
-            return false;
+    for (place, case) in expected.iter().enumerate() {
+        match settings.get(place) {
+            Some(setting) if is_setting(setting, case.0, case.1) => {}
+            _ => return false,
         }
     }
     settings.len() == expected.len()
@@ -175,26 +174,6 @@ pub(crate) fn first_unstated(job: &JobDef, facts: &[Fact]) -> Option<usize> {
     None
 }
 
-fn job(alloc: Global, conf: &[u8], over: Option<&[u8]>) -> Result<JobDef, ConfFault> {
-    match over {
-        Some(over) => overridden(alloc, conf, over),
-        None => alone(alloc, conf),
-    }
-}
-
-// The place of the first fact that the job of a file doesn't state, or a fault.
-fn first_other(
-    alloc: Global,
-    conf: &[u8],
-    over: Option<&[u8]>,
-    facts: &[Fact],
-) -> Result<Option<usize>, ConfFault> {
-    let job = job(alloc, conf, over)?;
-    let other = first_unstated(&job, facts);
-    drop(job);
-    Ok(other)
-}
-
 fn check_job(
     alloc: Global,
     name: &'static str,
@@ -202,7 +181,10 @@ fn check_job(
     over: Option<&[u8]>,
     facts: &[Fact],
 ) -> Result<(), Fail> {
-    match first_other(alloc, conf, over, facts)? {
+    let job = job(alloc, conf, over)?;
+    let unstated = first_unstated(&job, facts);
+    drop(job);
+    match unstated {
         Some(place) => Err(Fail::new(format_args!("{name}: fact {place} isn't stated"))),
         None => Ok(()),
     }
@@ -289,6 +271,18 @@ const OTHERS: &'static [Case] = &[
         over: None,
         facts: &[Fact::StartsOn("b")],
     },
+    Case {
+        name: "overridden",
+        conf: b"start on a\nexec x\nenv A=1\nenv B=2\nexport B\ntask\n",
+        over: Some(b"env B=3\nenv C\nexport A B\nexec y z\nmanual\n"),
+        facts: &[
+            Fact::Env(&[("A", Some("1")), ("B", Some("3")), ("C", None)]),
+            Fact::Export(&["B", "A"]),
+            Fact::Main(&["y", "z"]),
+            Fact::Marks(true, false, false),
+            Fact::NeverStarts,
+        ],
+    },
 ];
 
 #[test]
@@ -296,37 +290,22 @@ fn others_add_up(rt: HostRuntime) -> Result<(), Fail> {
     check(rt.alloc(), OTHERS)
 }
 
-const OVERRIDDEN: &'static [Case] = &[Case {
-    name: "overridden",
-    conf: b"start on a\nexec x\nenv A=1\nenv B=2\nexport B\ntask\n",
-    over: Some(b"env B=3\nenv C\nexport A B\nexec y z\nmanual\n"),
-    facts: &[
-        Fact::Env(&[("A", Some("1")), ("B", Some("3")), ("C", None)]),
-        Fact::Export(&["B", "A"]),
-        Fact::Main(&["y", "z"]),
-        Fact::Marks(true, false, false),
-        Fact::NeverStarts,
-    ],
-}];
-
-#[test]
-fn an_override_goes_after(rt: HostRuntime) -> Result<(), Fail> {
-    check(rt.alloc(), OVERRIDDEN)
-}
-
-fn file_of_many_keys(alloc: Global) -> Result<Vec<u8>, AllocError> {
-    let mut text: Vec<u8> = Vec::new(alloc);
-    for n in 0..30_000u32 {
-        let line = format!(in alloc; "env K{n}={n}\nexport K{n}\n")?;
-        text.extend_from_slice(line.as_bytes())?;
+fn push_keys(text: &mut String, count: u32) -> Result<(), AllocError> {
+    for n in 0..count {
+        write!(text, "env K{n}={n}\nexport K{n}\n")?;
     }
-    Ok(text)
+    Ok(())
 }
 
 const MANY_KEYS: &'static [Fact] = &[Fact::Keys(30_000, 30_000)];
 
 #[test]
 fn many_keys_are_set(rt: HostRuntime) -> Result<(), Fail> {
-    let text = file_of_many_keys(rt.alloc())?;
-    check_job(rt.alloc(), "many keys", text.as_slice(), None, MANY_KEYS)
+    let mut text = String::new(rt.alloc());
+    let checked = match push_keys(&mut text, 30_000) {
+        Ok(()) => check_job(rt.alloc(), "many keys", text.as_bytes(), None, MANY_KEYS),
+        Err(refused) => Err(Fail::from(refused)),
+    };
+    drop(text);
+    checked
 }

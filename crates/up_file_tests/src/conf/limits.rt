@@ -1,15 +1,13 @@
 //! What a file may have at most.
 use crate::conf::{Reading, read};
-use std::alloc::{AllocError, Global};
+use crate::tables::{Long, long_text};
+use std::alloc::Global;
 use std::test::Fail;
 
-// A file with a piece that repeats, its size if that is limited, and what it is read as.
+// A long file, its size if that is limited, and what it is read as.
 struct Large {
     name: &'static str,
-    head: &'static [u8],
-    piece: &'static [u8],
-    times: usize,
-    end: &'static [u8],
+    text: Long,
     size: Option<usize>,
     reading: Reading,
 }
@@ -18,132 +16,93 @@ struct Large {
 const LARGE: &'static [Large] = &[
     Large {
         name: "longest",
-        head: b"task\n###########",
-        piece: b"################",
-        times: 65_535,
-        end: b"",
+        text: ("task\n###########", "################", 65_535, "", 0),
         size: Some(1_048_576),
         reading: Ok(1),
     },
     Large {
         name: "too long",
-        head: b"task\n###########",
-        piece: b"################",
-        times: 65_535,
-        end: b"#",
+        text: ("task\n###########", "################", 65_535, "#", 0),
         size: None,
         reading: Err((1, 16)),
     },
     Large {
         name: "most keys that are set",
-        head: b"",
-        piece: b"env A\n",
-        times: 30_000,
-        end: b"",
+        text: ("", "env A\n", 30_000, "", 0),
         size: None,
         reading: Ok(30_000),
     },
     Large {
         name: "too many keys that are set",
-        head: b"",
-        piece: b"env A\n",
-        times: 30_000,
-        end: b"env B\nbogus\n",
+        text: ("", "env A\n", 30_000, "env B\nbogus\n", 0),
         size: None,
         reading: Err((1, 16)),
     },
     Large {
         name: "most keys that are exported",
-        head: b"task\nexport",
-        piece: b" A",
-        times: 30_000,
-        end: b"",
+        text: ("task\nexport", " A", 30_000, "", 0),
         size: None,
         reading: Ok(2),
     },
     Large {
         name: "too many keys that are exported",
-        head: b"task\nexport",
-        piece: b" A",
-        times: 30_000,
-        end: b"\nexport B",
+        text: ("task\nexport", " A", 30_000, "\nexport B", 0),
         size: None,
         reading: Err((1, 16)),
     },
     // Keys after an unreadable stanza don't count.
     Large {
         name: "keys behind an unreadable stanza",
-        head: b"task\nbogus\n",
-        piece: b"env A\n",
-        times: 30_001,
-        end: b"",
+        text: ("task\nbogus\n", "env A\n", 30_001, "", 0),
         size: None,
         reading: Err((2, 1)),
     },
     Large {
         name: "most words",
-        head: b"task\nexec",
-        piece: b" w",
-        times: 65_535,
-        end: b"",
+        text: ("task\nexec", " w", 65_535, "", 0),
         size: None,
         reading: Ok(2),
     },
     Large {
         name: "too many words",
-        head: b"task\nexec",
-        piece: b" w",
-        times: 65_535,
-        end: b" w",
+        text: ("task\nexec", " w", 65_535, " w", 0),
         size: None,
         reading: Err((2, 16)),
     },
     Large {
         name: "largest expression",
-        head: b"task\nstart on a",
-        piece: b" or a",
-        times: 2_047,
-        end: b"",
+        text: ("task\nstart on a", " or a", 2_047, "", 0),
         size: None,
         reading: Ok(2),
     },
     Large {
         name: "too large an expression",
-        head: b"task\nstart on a",
-        piece: b" or a",
-        times: 2_047,
-        end: b" and a",
+        text: ("task\nstart on a", " or a", 2_047, " and a", 0),
+        size: None,
+        reading: Err((2, 16)),
+    },
+    Large {
+        name: "too many parentheses",
+        text: ("task\nstart on ", "(", 257, "a", 257),
         size: None,
         reading: Err((2, 16)),
     },
 ];
 
-fn text_of(alloc: Global, case: &Large) -> Result<Vec<u8>, AllocError> {
-    let mut text: Vec<u8> = Vec::new(alloc);
-    text.extend_from_slice(case.head)?;
-    for _ in 0..case.times {
-        text.extend_from_slice(case.piece)?;
+fn check(alloc: Global, cases: &[Large]) -> Result<(), Fail> {
+    for case in cases {
+        let text = long_text(alloc, &case.text)?;
+        let reading = read(alloc, text.as_bytes());
+        let size = text.len();
+        drop(text);
+        if reading != case.reading || case.size.unwrap_or(size) != size {
+            return Err(Fail::from(case.name));
+        }
     }
-    text.extend_from_slice(case.end)?;
-    Ok(text)
-}
-
-fn is_sized(text: &[u8], case: &Large) -> bool {
-    match case.size {
-        Some(size) => text.len() == size,
-        None => true,
-    }
-}
-
-fn is_read(alloc: Global, case: &Large) -> Result<bool, AllocError> {
-    let text = text_of(alloc, case)?;
-    Ok(is_sized(text.as_slice(), case) && read(alloc, text.as_slice()) == case.reading)
+    Ok(())
 }
 
 #[test]
 fn files_are_limited(rt: HostRuntime) -> Result<(), Fail> {
-    for case in LARGE {
-        assert!(rt; is_read(rt.alloc(), case)?, "{}", case.name);
-    }
-    Ok(())
+    check(rt.alloc(), LARGE)
 }

@@ -1,606 +1,606 @@
-//! What fnmatch(3) says: in each row a pattern, a text, and whether they match with flags 0 in the C locale.
+//! What fnmatch(3) says: in each row a pattern, and a text, after `+` if they match with flags 0 in the C locale, and after `-` if they don't.
 //!
 //! Written by oracle/fnmatch.py from the C library of Debian 12 (glibc 2.36); it says which patterns are left out.
 
 pub(crate) const ROWS: &str = "\
-*b !b^b true
-*b !b^a false
-]a]? ]a]^ true
-]a]? ]a^]^ false
-*- ]]-- true
-*- ]]-a false
-[\\[?]?] []] true
-[\\[?]?] ]]] false
-[]?-][!ba] -! true
-[]?-][!ba] --! false
-![b*?b]\\[[!?] !b[b true
-![b*?b]\\[[!?] b[b false
-*a --^a true
-*a --^ab false
-]?[a ]a[a true
-]?[a ]a-[a false
--^ -^ true
--^ -[ false
-[*\\-][!*] -b true
-[*\\-][!*] b-b false
-?[]bb]!] ]]!] true
-?[]bb]!] ]]!! false
-*a*\\[-] a[-] true
-*a*\\[-] aa-] false
-![]!]b[a] !]ba true
-![]!]b[a] !]b! false
-[]]ba[ ]ba[ true
-[]]ba[ []ba[ false
-???- [!!- true
-???- [!!^- false
-?[!\\]^]]! ^!]! true
-?[!\\]^]]! ]^!]! false
-]]^ ]]^ true
-]]^ b]^ false
-! ! true
-! ![ false
-[b??[aa]*[ [b\\[ true
-[b??[aa]*[ [b\\[- false
-[*\\[]a] [a] true
-[*\\[]a] \\[a] false
-![ ![ true
-![ !- false
-\\^[a*![] ^a true
-\\^[a*![] ^\\ false
-? ^ true
-? \\^ false
-[\\]*![-a\\a] [ true
-[\\]*![-a\\a] -[ false
-[[!]]] []] true
-[[!]]] [b]] false
-!! !! true
-!! ![ false
-- - true
-- ]- false
-[[!-]*[\\[]] -![] true
-[[!-]*[\\[]] ^-![] false
-a[[[-b] aa true
-a[[[-b] [aa false
-[--[[] [ true
-[--[[] -[ false
-[??^]b ^b true
-[??^]b ^[ false
-[!]b^]a[? \\a[] true
-[!]b^]a[? \\-a[] false
-a]!^ a]!^ true
-a]!^ a]!- false
-b[]??] b] true
-b[]??] ]b] false
-[\\]\\[]b [b true
-[\\]\\[]b bb false
-[a] a true
-[a] -a false
-^^^[?^] ^^^^ true
-^^^[?^] [^^^ false
-][\\ba[][?-b*]] ][a] true
-][\\ba[][?-b*]] ][!a] false
-]b] ]b] true
-]b] ]b^] false
-* !][! true
-[?-]] -] true
-[?-]] -]] false
-!* !^[] true
-!* ^[] false
-![a[* ![a[ true
-![a[* !][a[ false
-*[[b] -\\b[ true
-*[[b] -\\b[! false
-[[*\\[][!*^-] [\\ true
-[[*\\[][!*^-] [^ false
-[??[b] [ true
-[??[b] ![ false
-*!*![ ![![ true
-*!*![ \\[![ false
-b[aa^]b b^b true
-b[aa^]b b^ab false
-[-?[*]ba[a*] -baa true
-[-?[*]ba[a*] -!aa false
-^^ ^^ true
-^^ -^ false
-\\b!** b!\\] true
-\\b!** b^\\] false
--!!b -!!b true
--!!b -!-!b false
-\\- - true
-\\- b false
-[[\\^] ^ true
-[[\\^] ^- false
---[ --[ true
---[ [--[ false
-[[ab][[b]b^ abb^ true
-[[ab][[b]b^ abb[^ false
-b[b[b] b[ true
-b[b[b] [[ false
-^b ^b true
-^b !^b false
-^? ^] true
-^? [^] false
-^\\[ ^[ true
-^\\[ ^[- false
-b* b\\a\\ true
-b* !\\a\\ false
-[!\\[[b!-] ^ true
-[!\\[[b!-] \\^ false
-\\[?**]*! [^]! true
-\\[?**]*! [^]b false
--] -] true
--] [] false
-\\^[* ^[!b true
-\\^[* ^a!b false
-b] b] true
-b] ^] false
-[a*][b-] a- true
-[a*][b-] a!- false
-[!\\]]a -a true
-[!\\]]a !-a false
-][*-[!][ ]-[ true
-][*-[!][ ]\\[ false
-![a ![a true
-![a b[a false
-b![ b![ true
-b![ b\\![ false
-b-[ b-[ true
-b-[ b]-[ false
-?- ]- true
-?- ]-] false
-[a*b?]] a] true
-[a*b?]] a\\] false
-[\\-b]^ b^ true
-[\\-b]^ ]b^ false
-*[a]?^[ a-^[ true
-*[a]?^[ a[-^[ false
-?b^a ab^a true
-?b^a ab[^a false
-[a [a true
-[a [ba false
--!? -!^ true
--!? b-!^ false
-a]a a]a true
-a]a a]\\a false
-*^? ^[^] true
-*^? ^[^!] false
-a*^^[ a^^[ true
-a*^^[ a^^[! false
-[--?]![? -![\\ true
-[--?]![? -][\\ false
-[ [ true
-[ [^ false
-[a[][a]![a-aa] aa!a true
-[a[][a]![a-aa] aa!!a false
-?ba ^ba true
-?ba ^ba! false
-[]] ] true
-[]] \\] false
-!*^![?^*a] !^!^ true
-!*^![?^*a] !^!^[ false
-]a? ]a] true
-]a? !]a] false
-]]] ]]] true
-]]] ]][ false
-^*^ ^b[^ true
-^*^ ^b[^! false
-[?[] [ true
-[?[] b[ false
-[[b [[b true
-[[b [[[b false
-[\\a!^][[][*a]-* ^[a- true
-[\\a!^][[][*a]-* -^[a- false
-b^[-^[]^ b^^^ true
-b^[-^[]^ ]b^^^ false
-[??-]^\\-b -^-b true
-[??-]^\\-b -^-b^ false
--* --b- true
--* ^--b- false
-b b true
-b - false
-!^! !^! true
-!^! [!^! false
-*-[?-]]! --]! true
-*-[?-]]! --[! false
-a?^ a[^ true
-a?^ a[^^ false
-[[?*]\\] [] true
-[[?*]\\] [^ false
--[ -[ true
--[ [-[ false
-[]ab][b* ][b\\ true
-[]ab][b* ][-b\\ false
-]^ ]^ true
-]^ b]^ false
-[b[]? [a true
-[b[]? [!a false
-a a true
-a ^a false
-[[[]b^ [b^ true
-[[[]b^ [b^] false
-[!!b]b*][[ab] [b][ true
-[!!b]b*][[ab] []b][ false
-ab ab true
-ab ab! false
-[!\\] [!] true
-[!\\] [^!] false
-[-b][b!*\\]][\\!?] b]! true
-[-b][b!*\\]][\\!?] b\\! false
-?b bb true
-?b bb[ false
-[-\\b?]^ -^ true
-[-\\b?]^ -^- false
-][\\[*b\\b] ]b true
-][\\[*b\\b] ]b- false
-a! a! true
-a! a^ false
-[[]*[]-a]?[ab] [a\\a true
-[[]*[]-a]?[ab] ^[a\\a false
-[-*^][\\] ^[] true
-[-*^][\\] b[] false
-*[?a] [^!a true
-*[?a] [^!a[ false
-[bb?a] b true
-[bb?a] ^ false
-!] !] true
-!] a!] false
-[b [b true
-[b b false
-]-b[a^] ]-ba true
-]-b[a^] ]-b] false
-*-*- --a- true
-*-*- --a-b false
-[]][a] ]a true
-[]][a] ]^a false
-a^ a^ true
-a^ ^a^ false
-[*\\]-][[!^-]?^ --^^ true
-[*\\]-][[!^-]?^ b--^^ false
-?] ^] true
-?] ^^ false
-[b^\\b] ^ true
-[b^\\b] ]^ false
-\\[[[?\\]!] [[ true
-\\[[[?\\]!] [[b false
-ba] ba] true
-ba] ba! false
-[a*[!?a]^? a^- true
-[a*[!?a]^? ^- false
-b[*?\\]!?[?a]?] b[b] true
-b[*?\\]!?[?a]?] b[b! false
-!aaa !aaa true
-!aaa \\!aaa false
-[\\][-\\\\]] \\] true
-[\\][-\\\\]] \\- false
-[ab]\\a* babb true
-[ab]\\a* b\\bb false
-]aa[ ]aa[ true
-]aa[ ]aa[b false
-![\\][\\-^] ![ true
-![\\][\\-^] ![- false
-**^ \\-]^ true
-**^ \\-]^b false
-b! b! true
-b! !b! false
-[-*^!][!*]b] --b] true
-[-*^!][!*]b] --]b] false
-][]][* ]][a true
-][]][* ]!][a false
-^b[!]] ^b^ true
-^b[!]] ^^ false
-[\\?b] b true
-[\\?b] b[ false
-[-[!?]?b !ab true
-[-[!?]?b ^!ab false
--^][[*b-] -^]b true
--^][[*b-] -^-b false
-[\\bbb][!][?-*!][ b-[ true
-[\\bbb][!][?-*!][ b-\\[ false
-*[\\b b^[b true
-*[\\b b^[ab false
-b[]b?][a] b]a true
-b[]b?][a] b]a- false
-b[]b\\]][]] bb] true
-b[]b\\]][]] bb^ false
-b*[-] b-b- true
-b*[-] b-b-[ false
-b[ba!][] ba[] true
-b[ba!][] ba[[] false
-!a[a] !aa true
-!a[a] ^!aa false
-?[?**!] [! true
-?[?**!] [!] false
-*?[-!!]^^ --^^ true
-*?[-!!]^^ --^-^ false
-[-\\]][!\\?]b -ab true
-[-\\]][!\\?]b -ab^ false
-^[ ^[ true
-^[ ^] false
-[aaa?][\\][ a[][ true
-[aaa?][\\][ a^][ false
-?a \\a true
-?a \\a\\ false
-[---a]!![*!^-] -!!- true
-[---a]!![*!^-] -^!- false
-?^ [^ true
-?^ [b^ false
-[[[?^]\\[?[ab] [[-a true
-[[[?^]\\[?[ab] [[-a! false
--][]]\\b -]]b true
--][]]\\b -]]ab false
-a[?b a[ab true
-a[?b abab false
-]] ]] true
-]] ^] false
-[\\][**!] ] true
-[\\][**!] a false
-*][ !!][ true
-*][ !!][^ false
-\\[*b]^ [b]^ true
-\\[*b]^ [b-^ false
-?? [a true
-?? [ba false
-[]-?[] [ true
-[]-?[] [b false
-^a- ^a- true
-^a- a^a- false
--?[\\bba]a --aa true
--?[\\bba]a -[-aa false
-b^[-^-b] b^b true
-b^[-^-b] b^b- false
-?* ^-]a true
--]ba -]ba true
--]ba -]b^a false
-a-b- a-b- true
-a-b- a-!b- false
-[b] b true
-[b] b- false
-[[a?]\\] [] true
-[[a?]\\] []^ false
-^[?\\[\\][[*[] ^] true
-^[?\\[\\][[*[] ^a] false
-[]b*][[a\\a]]a ]a]a true
-[]b*][[a\\a]]a ]a]ab false
-?ba* aba true
-?ba* ab- false
-![][a] ![ true
-![][a] ]![ false
-^][-] ^]- true
-^][-] ^]\\ false
-*a[\\\\\\?] ]a\\ true
-*a[\\\\\\?] ]a[\\ false
-][\\[?] ][ true
-][\\[?] ^[ false
-[[[\\a]a! aa! true
-[[[\\a]a! ba! false
-?!* a!^] true
-?!* -a!^] false
-\\b]b b]b true
-\\b]b b]b! false
-*a\\-[b][a] a-ba true
-*a\\-[b][a] a-ba] false
-b[?b] bb true
-b[?b] b^ false
-[]\\[][ab] [a true
-[]\\[][ab] [^ false
-[!\\?] a true
-[!\\?] !a false
-*[b-a[]?\\^ -[!^ true
-*[b-a[]?\\^ -[!^! false
-[[[[!?\\?] [ true
-[[[[!?\\?] -[ false
-b?[b bb[b true
-b?[b bb[\\b false
-[?a^!] ! true
-[?a^!] [! false
-^!b ^!b true
-^!b ^!ab false
-[[]! [! true
-[[]! ]! false
-[-][b-][*a^*] --^ true
-[-][b-][*a^*] -a-^ false
-!a !a true
-!a !a\\ false
-^! ^! true
-^! -^! false
-[]-![][]*a]]? []][ true
-[]-![][]*a]]? ^[]][ false
-??a ^]a true
-??a ^^]a false
-[!*][][[]**] [[-] true
-[!*][][[]**] [-] false
-[[][**^^ [[^^ true
-[[][**^^ [[b^ false
-b- b- true
-b- -b- false
-![-][]]] !-]] true
-![-][]]] ]!-]] false
-\\-][] -][] true
-\\-][] b-][] false
-[b]a?[-[*] ba\\[ true
-[b]a?[-[*] aa\\[ false
-[!*!-]!a ^!a true
-[!*!-]!a -^!a false
-** \\[![ true
-[[]b[]^\\]] [b] true
-[[]b[]^\\]] [b[] false
-[?[-a][-] ]- true
-[?[-a][-] ]-^ false
-*]\\^a a]^a true
-*]\\^a a!^a false
-*!! a!! true
-*!! a!^ false
-[-!][!?-]! ![! true
-[-!][!?-]! !^[! false
-]]* ]]\\^ true
-]]* !]\\^ false
-*!\\[ !![ true
-*!\\[ !\\[ false
-[]][\\*a] ]a true
-[]][\\*a] ]- false
-[[\\] [[] true
-[[\\] [[]a false
-[?!] ! true
-[?!] !- false
-[b][b[\\]]^ b[^ true
-[b][b[\\]]^ b[] false
-]a ]a true
-]a b]a false
-[[*\\-] [ true
-[[*\\-] [b false
-b^[ b^[ true
-b^[ b^] false
-a[[]?! a[b! true
-a[[]?! a[!b! false
-a[bb\\a] ab true
-a[bb\\a] a[b false
-*?[]a*]*a ^-]a true
-*?[]a*]*a ^-a false
-[a\\*?] a true
-[a\\*?] a\\ false
-!?[-b!]] !--] true
-!?[-b!]] !]--] false
-!??[ !ab[ true
-!??[ !ab] false
--[\\^] -^ true
--[\\^] -! false
-[*[b[?] [ true
-[*[b[?] [a false
-??- ab- true
-??- ab-b false
-[[] [ true
-[[] \\ false
-[?a*?]b[*^\\\\] ab\\ true
-[?a*?]b[*^\\\\] a\\\\ false
-\\a[!*] a] true
-\\a[!*] ^] false
-*] \\[!] true
-*] \\[!][ false
-[\\^!][]!] ^! true
-[\\^!][]!] ^!a false
-[?\\?a] a true
-[?\\?a] !a false
-b]\\-[]?![] b]-[ true
-b]\\-[]?![] b\\-[ false
-]- ]- true
-]- ]-] false
-a[ a[ true
-a[ a![ false
-]!* ]!!- true
-]!* ]]!- false
-b? b[ true
-b? b[! false
-*aa? -aa! true
-*aa? -a-! false
-[?-b] ^ true
-[?-b] [^ false
-[b]!-[]*?!] b!-! true
-[b]!-[]*?!] b]!-! false
-b*[ b-^[ true
-b*[ b-^^ false
-[[-*a]? ab true
-[[-*a]? a!b false
-]!? ]!] true
-]!? ]! false
-^b^- ^b^- true
-^b^- ^!^- false
-[[b]] [] true
-[[b]] [-] false
-[!\\![]b[a!**] -b! true
-[!\\![]b[a!**] -b^ false
-![[b!^^]a !ba true
-![[b!^^]a a!ba false
-][ ][ true
-][ ][- false
-[b! [b! true
-[b! [b!b false
-[-][]\\![][[!b] -]! true
-[-][]\\![][[!b] -a]! false
-[-]-! --! true
-[-]-! -! false
-[?b-] b true
-[?b-] b- false
--**^] -^^] true
--**^] b-^^] false
-^ ^ true
-^ - false
-[!-!][]!*^] ]] true
-[!-!][]!*^] ]]a false
-?a-] !a-] true
-?a-] !a--] false
-*\\! [[a! true
-*\\! [[a\\ false
-[?b\\]]**[!] ][!] true
-[?b\\]]**[!] -[!] false
-?!^ a!^ true
-?!^ ]a!^ false
-[-aa [-aa true
-[-aa [aa false
-[[][-!][[??^] [!^ true
-[[][-!][[??^] [! false
-!b\\\\- !b\\- true
-!b\\\\- !b!\\- false
--][?* -][^ true
--][?* -^][^ false
-[?\\][*^a*]?*[[ [[[[ true
-[?\\][*^a*]?*[[ [[[a[ false
-[]\\[ [][ true
-[]\\[ [][^ false
-b-[b]] b-b] true
-b-[b]] ]-b] false
--![-][!*] -!-b true
--![-][!*] -!!-b false
-!- !- true
-!- !-\\ false
-*a[-]]\\a a-]a true
-*a[-]]\\a a\\-]a false
-[[*]?][ []][ true
-[[*]?][ []-[ false
-*[-a\\] [-a] true
-*[-a\\] [-a false
-*^ b[!^ true
-*^ b[!^b false
-[\\!]! !! true
-[\\!]! !!^ false
-[a^]?^[a] a]^a true
-[a^]?^[a] a]a^a false
-[b]^ b^ true
-[b]^ b]^ false
-[]--a][\\[\\] a[[] true
-[]--a][\\[\\] a[-] false
-?b[a*?*] aba true
-?b[a*?*] ab! false
-!!b\\- !!b- true
-!!b\\- !-b- false
-[[*a!]][a--!] []! true
-[[*a!]][a--!] [-]! false
--??* -[[ true
--??* \\-[[ false
-a[![ a[![ true
-a[![ a[!^ false
-[b\\[!]*-[-[ab] [a-[ true
-[b\\[!]*-[-[ab] [a-[b false
-b*[! ba[! true
-b*[! ba[![ false
--[] -[] true
--[] -[[ false
-b--?* b--- true
-b--?* !--- false
-] ] true
-] ]^ false
-[[!a^] [ true
-[[!a^] [- false
-b!b[a] b!ba true
-b!b[a] b!aa false
-[]]][ ]][ true
-[]]][ ]]b false
-[?^^] ^ true
-[?^^] [^ false
-[]!a]aa aaa true
-[]!a]aa aaa] false
-[[ [[ true
-[[ ][[ false
-^a ^a true
-^a ^! false
-[a-\\b]?[b!]^ b[!^ true
+*b +!b^b
+*b -!b^a
+]a]? +]a]^
+]a]? -]a^]^
+*- +]]--
+*- -]]-a
+[\\[?]?] +[]]
+[\\[?]?] -]]]
+[]?-][!ba] +-!
+[]?-][!ba] ---!
+![b*?b]\\[[!?] +!b[b
+![b*?b]\\[[!?] -b[b
+*a +--^a
+*a ---^ab
+]?[a +]a[a
+]?[a -]a-[a
+-^ +-^
+-^ --[
+[*\\-][!*] +-b
+[*\\-][!*] -b-b
+?[]bb]!] +]]!]
+?[]bb]!] -]]!!
+*a*\\[-] +a[-]
+*a*\\[-] -aa-]
+![]!]b[a] +!]ba
+![]!]b[a] -!]b!
+[]]ba[ +]ba[
+[]]ba[ -[]ba[
+???- +[!!-
+???- -[!!^-
+?[!\\]^]]! +^!]!
+?[!\\]^]]! -]^!]!
+]]^ +]]^
+]]^ -b]^
+! +!
+! -![
+[b??[aa]*[ +[b\\[
+[b??[aa]*[ -[b\\[-
+[*\\[]a] +[a]
+[*\\[]a] -\\[a]
+![ +![
+![ -!-
+\\^[a*![] +^a
+\\^[a*![] -^\\
+? +^
+? -\\^
+[\\]*![-a\\a] +[
+[\\]*![-a\\a] --[
+[[!]]] +[]]
+[[!]]] -[b]]
+!! +!!
+!! -![
+- +-
+- -]-
+[[!-]*[\\[]] +-![]
+[[!-]*[\\[]] -^-![]
+a[[[-b] +aa
+a[[[-b] -[aa
+[--[[] +[
+[--[[] --[
+[??^]b +^b
+[??^]b -^[
+[!]b^]a[? +\\a[]
+[!]b^]a[? -\\-a[]
+a]!^ +a]!^
+a]!^ -a]!-
+b[]??] +b]
+b[]??] -]b]
+[\\]\\[]b +[b
+[\\]\\[]b -bb
+[a] +a
+[a] --a
+^^^[?^] +^^^^
+^^^[?^] -[^^^
+][\\ba[][?-b*]] +][a]
+][\\ba[][?-b*]] -][!a]
+]b] +]b]
+]b] -]b^]
+* +!][!
+[?-]] +-]
+[?-]] --]]
+!* +!^[]
+!* -^[]
+![a[* +![a[
+![a[* -!][a[
+*[[b] +-\\b[
+*[[b] --\\b[!
+[[*\\[][!*^-] +[\\
+[[*\\[][!*^-] -[^
+[??[b] +[
+[??[b] -![
+*!*![ +![![
+*!*![ -\\[![
+b[aa^]b +b^b
+b[aa^]b -b^ab
+[-?[*]ba[a*] +-baa
+[-?[*]ba[a*] --!aa
+^^ +^^
+^^ --^
+\\b!** +b!\\]
+\\b!** -b^\\]
+-!!b +-!!b
+-!!b --!-!b
+\\- +-
+\\- -b
+[[\\^] +^
+[[\\^] -^-
+--[ +--[
+--[ -[--[
+[[ab][[b]b^ +abb^
+[[ab][[b]b^ -abb[^
+b[b[b] +b[
+b[b[b] -[[
+^b +^b
+^b -!^b
+^? +^]
+^? -[^]
+^\\[ +^[
+^\\[ -^[-
+b* +b\\a\\
+b* -!\\a\\
+[!\\[[b!-] +^
+[!\\[[b!-] -\\^
+\\[?**]*! +[^]!
+\\[?**]*! -[^]b
+-] +-]
+-] -[]
+\\^[* +^[!b
+\\^[* -^a!b
+b] +b]
+b] -^]
+[a*][b-] +a-
+[a*][b-] -a!-
+[!\\]]a +-a
+[!\\]]a -!-a
+][*-[!][ +]-[
+][*-[!][ -]\\[
+![a +![a
+![a -b[a
+b![ +b![
+b![ -b\\![
+b-[ +b-[
+b-[ -b]-[
+?- +]-
+?- -]-]
+[a*b?]] +a]
+[a*b?]] -a\\]
+[\\-b]^ +b^
+[\\-b]^ -]b^
+*[a]?^[ +a-^[
+*[a]?^[ -a[-^[
+?b^a +ab^a
+?b^a -ab[^a
+[a +[a
+[a -[ba
+-!? +-!^
+-!? -b-!^
+a]a +a]a
+a]a -a]\\a
+*^? +^[^]
+*^? -^[^!]
+a*^^[ +a^^[
+a*^^[ -a^^[!
+[--?]![? +-![\\
+[--?]![? --][\\
+[ +[
+[ -[^
+[a[][a]![a-aa] +aa!a
+[a[][a]![a-aa] -aa!!a
+?ba +^ba
+?ba -^ba!
+[]] +]
+[]] -\\]
+!*^![?^*a] +!^!^
+!*^![?^*a] -!^!^[
+]a? +]a]
+]a? -!]a]
+]]] +]]]
+]]] -]][
+^*^ +^b[^
+^*^ -^b[^!
+[?[] +[
+[?[] -b[
+[[b +[[b
+[[b -[[[b
+[\\a!^][[][*a]-* +^[a-
+[\\a!^][[][*a]-* --^[a-
+b^[-^[]^ +b^^^
+b^[-^[]^ -]b^^^
+[??-]^\\-b +-^-b
+[??-]^\\-b --^-b^
+-* +--b-
+-* -^--b-
+b +b
+b --
+!^! +!^!
+!^! -[!^!
+*-[?-]]! +--]!
+*-[?-]]! ---[!
+a?^ +a[^
+a?^ -a[^^
+[[?*]\\] +[]
+[[?*]\\] -[^
+-[ +-[
+-[ -[-[
+[]ab][b* +][b\\
+[]ab][b* -][-b\\
+]^ +]^
+]^ -b]^
+[b[]? +[a
+[b[]? -[!a
+a +a
+a -^a
+[[[]b^ +[b^
+[[[]b^ -[b^]
+[!!b]b*][[ab] +[b][
+[!!b]b*][[ab] -[]b][
+ab +ab
+ab -ab!
+[!\\] +[!]
+[!\\] -[^!]
+[-b][b!*\\]][\\!?] +b]!
+[-b][b!*\\]][\\!?] -b\\!
+?b +bb
+?b -bb[
+[-\\b?]^ +-^
+[-\\b?]^ --^-
+][\\[*b\\b] +]b
+][\\[*b\\b] -]b-
+a! +a!
+a! -a^
+[[]*[]-a]?[ab] +[a\\a
+[[]*[]-a]?[ab] -^[a\\a
+[-*^][\\] +^[]
+[-*^][\\] -b[]
+*[?a] +[^!a
+*[?a] -[^!a[
+[bb?a] +b
+[bb?a] -^
+!] +!]
+!] -a!]
+[b +[b
+[b -b
+]-b[a^] +]-ba
+]-b[a^] -]-b]
+*-*- +--a-
+*-*- ---a-b
+[]][a] +]a
+[]][a] -]^a
+a^ +a^
+a^ -^a^
+[*\\]-][[!^-]?^ +--^^
+[*\\]-][[!^-]?^ -b--^^
+?] +^]
+?] -^^
+[b^\\b] +^
+[b^\\b] -]^
+\\[[[?\\]!] +[[
+\\[[[?\\]!] -[[b
+ba] +ba]
+ba] -ba!
+[a*[!?a]^? +a^-
+[a*[!?a]^? -^-
+b[*?\\]!?[?a]?] +b[b]
+b[*?\\]!?[?a]?] -b[b!
+!aaa +!aaa
+!aaa -\\!aaa
+[\\][-\\\\]] +\\]
+[\\][-\\\\]] -\\-
+[ab]\\a* +babb
+[ab]\\a* -b\\bb
+]aa[ +]aa[
+]aa[ -]aa[b
+![\\][\\-^] +![
+![\\][\\-^] -![-
+**^ +\\-]^
+**^ -\\-]^b
+b! +b!
+b! -!b!
+[-*^!][!*]b] +--b]
+[-*^!][!*]b] ---]b]
+][]][* +]][a
+][]][* -]!][a
+^b[!]] +^b^
+^b[!]] -^^
+[\\?b] +b
+[\\?b] -b[
+[-[!?]?b +!ab
+[-[!?]?b -^!ab
+-^][[*b-] +-^]b
+-^][[*b-] --^-b
+[\\bbb][!][?-*!][ +b-[
+[\\bbb][!][?-*!][ -b-\\[
+*[\\b +b^[b
+*[\\b -b^[ab
+b[]b?][a] +b]a
+b[]b?][a] -b]a-
+b[]b\\]][]] +bb]
+b[]b\\]][]] -bb^
+b*[-] +b-b-
+b*[-] -b-b-[
+b[ba!][] +ba[]
+b[ba!][] -ba[[]
+!a[a] +!aa
+!a[a] -^!aa
+?[?**!] +[!
+?[?**!] -[!]
+*?[-!!]^^ +--^^
+*?[-!!]^^ ---^-^
+[-\\]][!\\?]b +-ab
+[-\\]][!\\?]b --ab^
+^[ +^[
+^[ -^]
+[aaa?][\\][ +a[][
+[aaa?][\\][ -a^][
+?a +\\a
+?a -\\a\\
+[---a]!![*!^-] +-!!-
+[---a]!![*!^-] --^!-
+?^ +[^
+?^ -[b^
+[[[?^]\\[?[ab] +[[-a
+[[[?^]\\[?[ab] -[[-a!
+-][]]\\b +-]]b
+-][]]\\b --]]ab
+a[?b +a[ab
+a[?b -abab
+]] +]]
+]] -^]
+[\\][**!] +]
+[\\][**!] -a
+*][ +!!][
+*][ -!!][^
+\\[*b]^ +[b]^
+\\[*b]^ -[b-^
+?? +[a
+?? -[ba
+[]-?[] +[
+[]-?[] -[b
+^a- +^a-
+^a- -a^a-
+-?[\\bba]a +--aa
+-?[\\bba]a --[-aa
+b^[-^-b] +b^b
+b^[-^-b] -b^b-
+?* +^-]a
+-]ba +-]ba
+-]ba --]b^a
+a-b- +a-b-
+a-b- -a-!b-
+[b] +b
+[b] -b-
+[[a?]\\] +[]
+[[a?]\\] -[]^
+^[?\\[\\][[*[] +^]
+^[?\\[\\][[*[] -^a]
+[]b*][[a\\a]]a +]a]a
+[]b*][[a\\a]]a -]a]ab
+?ba* +aba
+?ba* -ab-
+![][a] +![
+![][a] -]![
+^][-] +^]-
+^][-] -^]\\
+*a[\\\\\\?] +]a\\
+*a[\\\\\\?] -]a[\\
+][\\[?] +][
+][\\[?] -^[
+[[[\\a]a! +aa!
+[[[\\a]a! -ba!
+?!* +a!^]
+?!* --a!^]
+\\b]b +b]b
+\\b]b -b]b!
+*a\\-[b][a] +a-ba
+*a\\-[b][a] -a-ba]
+b[?b] +bb
+b[?b] -b^
+[]\\[][ab] +[a
+[]\\[][ab] -[^
+[!\\?] +a
+[!\\?] -!a
+*[b-a[]?\\^ +-[!^
+*[b-a[]?\\^ --[!^!
+[[[[!?\\?] +[
+[[[[!?\\?] --[
+b?[b +bb[b
+b?[b -bb[\\b
+[?a^!] +!
+[?a^!] -[!
+^!b +^!b
+^!b -^!ab
+[[]! +[!
+[[]! -]!
+[-][b-][*a^*] +--^
+[-][b-][*a^*] --a-^
+!a +!a
+!a -!a\\
+^! +^!
+^! --^!
+[]-![][]*a]]? +[]][
+[]-![][]*a]]? -^[]][
+??a +^]a
+??a -^^]a
+[!*][][[]**] +[[-]
+[!*][][[]**] -[-]
+[[][**^^ +[[^^
+[[][**^^ -[[b^
+b- +b-
+b- --b-
+![-][]]] +!-]]
+![-][]]] -]!-]]
+\\-][] +-][]
+\\-][] -b-][]
+[b]a?[-[*] +ba\\[
+[b]a?[-[*] -aa\\[
+[!*!-]!a +^!a
+[!*!-]!a --^!a
+** +\\[![
+[[]b[]^\\]] +[b]
+[[]b[]^\\]] -[b[]
+[?[-a][-] +]-
+[?[-a][-] -]-^
+*]\\^a +a]^a
+*]\\^a -a!^a
+*!! +a!!
+*!! -a!^
+[-!][!?-]! +![!
+[-!][!?-]! -!^[!
+]]* +]]\\^
+]]* -!]\\^
+*!\\[ +!![
+*!\\[ -!\\[
+[]][\\*a] +]a
+[]][\\*a] -]-
+[[\\] +[[]
+[[\\] -[[]a
+[?!] +!
+[?!] -!-
+[b][b[\\]]^ +b[^
+[b][b[\\]]^ -b[]
+]a +]a
+]a -b]a
+[[*\\-] +[
+[[*\\-] -[b
+b^[ +b^[
+b^[ -b^]
+a[[]?! +a[b!
+a[[]?! -a[!b!
+a[bb\\a] +ab
+a[bb\\a] -a[b
+*?[]a*]*a +^-]a
+*?[]a*]*a -^-a
+[a\\*?] +a
+[a\\*?] -a\\
+!?[-b!]] +!--]
+!?[-b!]] -!]--]
+!??[ +!ab[
+!??[ -!ab]
+-[\\^] +-^
+-[\\^] --!
+[*[b[?] +[
+[*[b[?] -[a
+??- +ab-
+??- -ab-b
+[[] +[
+[[] -\\
+[?a*?]b[*^\\\\] +ab\\
+[?a*?]b[*^\\\\] -a\\\\
+\\a[!*] +a]
+\\a[!*] -^]
+*] +\\[!]
+*] -\\[!][
+[\\^!][]!] +^!
+[\\^!][]!] -^!a
+[?\\?a] +a
+[?\\?a] -!a
+b]\\-[]?![] +b]-[
+b]\\-[]?![] -b\\-[
+]- +]-
+]- -]-]
+a[ +a[
+a[ -a![
+]!* +]!!-
+]!* -]]!-
+b? +b[
+b? -b[!
+*aa? +-aa!
+*aa? --a-!
+[?-b] +^
+[?-b] -[^
+[b]!-[]*?!] +b!-!
+[b]!-[]*?!] -b]!-!
+b*[ +b-^[
+b*[ -b-^^
+[[-*a]? +ab
+[[-*a]? -a!b
+]!? +]!]
+]!? -]!
+^b^- +^b^-
+^b^- -^!^-
+[[b]] +[]
+[[b]] -[-]
+[!\\![]b[a!**] +-b!
+[!\\![]b[a!**] --b^
+![[b!^^]a +!ba
+![[b!^^]a -a!ba
+][ +][
+][ -][-
+[b! +[b!
+[b! -[b!b
+[-][]\\![][[!b] +-]!
+[-][]\\![][[!b] --a]!
+[-]-! +--!
+[-]-! --!
+[?b-] +b
+[?b-] -b-
+-**^] +-^^]
+-**^] -b-^^]
+^ +^
+^ --
+[!-!][]!*^] +]]
+[!-!][]!*^] -]]a
+?a-] +!a-]
+?a-] -!a--]
+*\\! +[[a!
+*\\! -[[a\\
+[?b\\]]**[!] +][!]
+[?b\\]]**[!] --[!]
+?!^ +a!^
+?!^ -]a!^
+[-aa +[-aa
+[-aa -[aa
+[[][-!][[??^] +[!^
+[[][-!][[??^] -[!
+!b\\\\- +!b\\-
+!b\\\\- -!b!\\-
+-][?* +-][^
+-][?* --^][^
+[?\\][*^a*]?*[[ +[[[[
+[?\\][*^a*]?*[[ -[[[a[
+[]\\[ +[][
+[]\\[ -[][^
+b-[b]] +b-b]
+b-[b]] -]-b]
+-![-][!*] +-!-b
+-![-][!*] --!!-b
+!- +!-
+!- -!-\\
+*a[-]]\\a +a-]a
+*a[-]]\\a -a\\-]a
+[[*]?][ +[]][
+[[*]?][ -[]-[
+*[-a\\] +[-a]
+*[-a\\] -[-a
+*^ +b[!^
+*^ -b[!^b
+[\\!]! +!!
+[\\!]! -!!^
+[a^]?^[a] +a]^a
+[a^]?^[a] -a]a^a
+[b]^ +b^
+[b]^ -b]^
+[]--a][\\[\\] +a[[]
+[]--a][\\[\\] -a[-]
+?b[a*?*] +aba
+?b[a*?*] -ab!
+!!b\\- +!!b-
+!!b\\- -!-b-
+[[*a!]][a--!] +[]!
+[[*a!]][a--!] -[-]!
+-??* +-[[
+-??* -\\-[[
+a[![ +a[![
+a[![ -a[!^
+[b\\[!]*-[-[ab] +[a-[
+[b\\[!]*-[-[ab] -[a-[b
+b*[! +ba[!
+b*[! -ba[![
+-[] +-[]
+-[] --[[
+b--?* +b---
+b--?* -!---
+] +]
+] -]^
+[[!a^] +[
+[[!a^] -[-
+b!b[a] +b!ba
+b!b[a] -b!aa
+[]]][ +]][
+[]]][ -]]b
+[?^^] +^
+[?^^] -[^
+[]!a]aa +aaa
+[]!a]aa -aaa]
+[[ +[[
+[[ -][[
+^a +^a
+^a -^!
+[a-\\b]?[b!]^ +b[!^
 ";

@@ -1,518 +1,249 @@
 //! Tokens, the texts of commands and scripts.
-ghost use Rattle.std.specs.Prelude.{◌<◌, length};
-
+use crate::tables::is_number;
 use std::alloc::{AllocError, Global};
 use std::test::Fail;
 use up_text::{Lexer, Text, TextFault, Token, next_word, without_comments};
 
-#[derive(Clone, Copy)]
-enum Step {
-    // A token that is spelled without quotes and backslashes, its line and its text.
-    Plain(u32, &'static str),
-    // One that isn't.
-    Spelled(u32, &'static str),
-    // The end of a stanza.
-    End,
-    // A token that is refused, and its line.
-    Refused(u32, TextFault),
-    // The switch for parentheses.
-    Parens(bool),
-    // The lines of a script.
-    Script(&'static str),
-    // A script without an end line.
-    NoScript,
-    // The text of a command.
-    Command(&'static str),
-    // One that is refused.
-    RefusedCommand(TextFault),
-}
+// A text, and what a lexer does with it, step by step:
+//
+// - `plain LINE TEXT`: it gives a token that is spelled without quotes and backslashes; `spelled LINE TEXT`: another one;
+// - `end`: the stanza ends; `refused LINE FAULT`: the token on this line is refused, by the number of a fault;
+// - `parens on`, `parens off`: it is told whether parentheses are tokens;
+// - `script TEXT`: it gives the lines of a script; `no-script`: the script has no end line;
+// - `command TEXT`: it gives the text of a command; `no-command FAULT`: that is refused;
+// - `nothing`: the text is used up, as it isn't before any other step; `more`: it isn't, since a lexer stays where it refuses.
+type Case = (&'static str, &'static str);
 
-struct Case {
-    text: &'static str,
-    steps: &'static [Step],
-}
-
-const TOKENS: &'static [Case] = &[
-    Case {
-        text: "",
-        steps: &[],
-    },
-    Case {
-        text: "# \"' \\\n \t\n\n",
-        steps: &[],
-    },
-    Case {
-        text: "\n\n a \t b # c\n#x\n  c#d\n",
-        steps: &[
-            Step::Plain(3, "a"),
-            Step::Plain(3, "b"),
-            Step::End,
-            Step::Plain(5, "c"),
-            Step::End,
-        ],
-    },
-    Case {
-        text: "\u{e9}\u{a0}\rb\u{b}c\t\"\"#\n''",
-        steps: &[
-            Step::Plain(1, "\u{e9}\u{a0}\rb\u{b}c"),
-            Step::Spelled(1, ""),
-            Step::End,
-            Step::Spelled(2, ""),
-            Step::End,
-        ],
-    },
-    Case {
-        text: "A=\"b c\" '\"'d\"'\" \"#\" \"a\\\"b\\c\"",
-        steps: &[
-            Step::Spelled(1, "A=b c"),
-            Step::Spelled(1, "\"d'"),
-            Step::Spelled(1, "#"),
-            Step::Spelled(1, "a\"bc"),
-            Step::End,
-        ],
-    },
-    Case {
-        text: "a\\ b \\# \\\" \\\\ \\\u{e9}x \"\\\u{20ac}\"",
-        steps: &[
-            Step::Spelled(1, "a b"),
-            Step::Spelled(1, "#"),
-            Step::Spelled(1, "\""),
-            Step::Spelled(1, "\\"),
-            Step::Spelled(1, "\u{e9}x"),
-            Step::Spelled(1, "\u{20ac}"),
-            Step::End,
-        ],
-    },
-    Case {
-        text: "a \\\n\\\n b\\\nc # d \\\ne",
-        steps: &[
-            Step::Plain(1, "a"),
-            Step::Plain(3, "b"),
-            Step::Plain(4, "c"),
-            Step::End,
-            Step::Plain(5, "e"),
-            Step::End,
-        ],
-    },
-    Case {
-        text: "\"a  \\\n  b\" \"a\nb\" \"a  b \" \"c\\ \n d\"\nz",
-        steps: &[
-            Step::Spelled(1, "a b"),
-            Step::Spelled(2, "a b"),
-            Step::Spelled(3, "a  b "),
-            Step::Spelled(3, "c  d"),
-            Step::End,
-            Step::Plain(5, "z"),
-            Step::End,
-        ],
-    },
-    Case {
-        text: "x\na\" y\n\nz",
-        steps: &[
-            Step::Plain(1, "x"),
-            Step::End,
-            Step::Refused(2, TextFault::UnterminatedQuote),
-            Step::Refused(2, TextFault::UnterminatedQuote),
-        ],
-    },
-    Case {
-        text: "\n'a\\",
-        steps: &[
-            Step::Refused(2, TextFault::UnterminatedQuote),
-            Step::Refused(2, TextFault::UnterminatedQuote),
-        ],
-    },
-    Case {
-        text: "b\\",
-        steps: &[
-            Step::Refused(1, TextFault::TrailingBackslash),
-            Step::Refused(1, TextFault::TrailingBackslash),
-        ],
-    },
-    Case {
-        text: "(a)",
-        steps: &[Step::Plain(1, "(a)"), Step::End],
-    },
+const CASES: &'static [Case] = &[
+    // Tokens.
+    ("", "nothing"),
+    ("# \"' \\\n \t\n\n", "nothing"),
+    (
+        "\n\n a \t b # c\n#x\n  c#d\n",
+        "plain 3 a|plain 3 b|end|plain 5 c|end|nothing",
+    ),
+    (
+        "\u{e9}\u{a0}\rb\u{b}c\t\"\"#\n''",
+        "plain 1 \u{e9}\u{a0}\rb\u{b}c|spelled 1 |end|spelled 2 |end|nothing",
+    ),
+    (
+        "A=\"b c\" '\"'d\"'\" \"#\" \"a\\\"b\\c\"",
+        "spelled 1 A=b c|spelled 1 \"d'|spelled 1 #|spelled 1 a\"bc|end|nothing",
+    ),
+    (
+        "a\\ b \\# \\\" \\\\ \\\u{e9}x \"\\\u{20ac}\"",
+        "spelled 1 a b|spelled 1 #|spelled 1 \"|spelled 1 \\|spelled 1 \u{e9}x|spelled 1 \u{20ac}|end|nothing",
+    ),
+    (
+        "a \\\n\\\n b\\\nc # d \\\ne",
+        "plain 1 a|plain 3 b|plain 4 c|end|plain 5 e|end|nothing",
+    ),
+    (
+        "\"a  \\\n  b\" \"a\nb\" \"a  b \" \"c\\ \n d\"\nz",
+        "spelled 1 a b|spelled 2 a b|spelled 3 a  b |spelled 3 c  d|end|plain 5 z|end|nothing",
+    ),
+    (
+        "x\na\" y\n\nz",
+        "plain 1 x|end|refused 2 5|refused 2 5|more",
+    ),
+    ("\n'a\\", "refused 2 5|refused 2 5|more"),
+    ("b\\", "refused 1 7|refused 1 7|more"),
+    ("(a)", "plain 1 (a)|end|nothing"),
+    // Parentheses.
+    (
+        "on a(b # c\n \n\"(\"\\)c) d)\ne (f\ng)",
+        "plain 1 on|parens on|plain 1 a|plain 1 (|plain 1 b|spelled 3 ()c|plain 3 )|plain 3 d|plain 3 )|end|plain 4 e|parens off|\
+         plain 4 (f|end|plain 5 g)|end|nothing",
+    ),
+    ("a (\n", "parens on|plain 1 a|plain 1 (|end|nothing"),
+    // Scripts.
+    (
+        "script\n\n # c\n  a \"\n end  scripts\n end \t script # x\nb\n",
+        "plain 1 script|end|script \n # c\n  a \"\n end  scripts\n|plain 7 b|end|nothing",
+    ),
+    ("script\nend script", "plain 1 script|end|script |nothing"),
+    (
+        "script\nend script#c\nend script #c\nb",
+        "plain 1 script|end|script end script#c\n|plain 4 b|end|nothing",
+    ),
+    (
+        "script\nend scripts\nend",
+        "plain 1 script|end|no-script|plain 2 end|plain 2 scripts|end|plain 3 end|end|nothing",
+    ),
+    // Commands.
+    (
+        "exec  a 'b  c' \"d\\\"\" \\e\t# f\ng",
+        "plain 1 exec|command a 'b  c' \"d\\\"\" \\e|end|plain 2 g|end|nothing",
+    ),
+    (
+        "exec \t a  \t b \t\nc",
+        "plain 1 exec|command a  \t b|end|plain 2 c|end|nothing",
+    ),
+    (
+        "exec a#b\nexec a \\# '#'#\nexec a\\ \nc",
+        "plain 1 exec|command a|end|plain 2 exec|command a \\# '#'|end|plain 3 exec|command a\\ |end|plain 4 c|end|nothing",
+    ),
+    (
+        "exec\nexec \t# a\nexec \\\n\t\nb\nexec",
+        "plain 1 exec|command |end|plain 2 exec|command |end|plain 3 exec|command |end|plain 5 b|end|plain 6 exec|command |end|nothing",
+    ),
+    (
+        "exec a b c d\nexec e f\ng",
+        "plain 1 exec|plain 1 a|command b c d|command |end|plain 2 exec|command e f|end|plain 3 g|end|nothing",
+    ),
+    (
+        "exec (a) \u{e9}\u{a0} '\u{20ac}' \\\u{e9}) # b\nc (d)",
+        "plain 1 exec|parens on|command (a) \u{e9}\u{a0} '\u{20ac}' \\\u{e9})|end|plain 2 c|plain 2 (|plain 2 d|plain 2 )|end|nothing",
+    ),
+    (
+        "exec \" ' \" ' \" ' $ \\\\ # \"",
+        "plain 1 exec|command \" ' \" ' \" ' $ \\\\|end|nothing",
+    ),
+    // Commands over several lines.
+    (
+        "exec a \\\n  \\\n\t b\\\nc\nd",
+        "plain 1 exec|command a b c|end|plain 5 d|end|nothing",
+    ),
+    (
+        "exec \\\n a  b \\\n # c\nd",
+        "plain 1 exec|command a  b|end|plain 4 d|end|nothing",
+    ),
+    (
+        "exec \"a  \\\n  b\" 'c \n\n d' \"e\\ \nf\"\ng",
+        "plain 1 exec|command \"a b\" 'c d' \"e\\  f\"|end|plain 6 g|end|nothing",
+    ),
+    // Commands that are refused.
+    (
+        "exec a \"b\n\nc",
+        "plain 1 exec|no-command 5|no-command 5|plain 1 a|refused 1 5|more",
+    ),
+    (
+        "exec a \\\n b\\",
+        "plain 1 exec|no-command 7|no-command 7|plain 1 a|refused 2 7|more",
+    ),
+    (
+        "exec a # '\nb",
+        "plain 1 exec|command a|end|plain 2 b|end|nothing",
+    ),
 ];
 
-const PARENS: &'static [Case] = &[
-    Case {
-        text: "on a(b # c\n \n\"(\"\\)c) d)\ne (f\ng)",
-        steps: &[
-            Step::Plain(1, "on"),
-            Step::Parens(true),
-            Step::Plain(1, "a"),
-            Step::Plain(1, "("),
-            Step::Plain(1, "b"),
-            Step::Spelled(3, "()c"),
-            Step::Plain(3, ")"),
-            Step::Plain(3, "d"),
-            Step::Plain(3, ")"),
-            Step::End,
-            Step::Plain(4, "e"),
-            Step::Parens(false),
-            Step::Plain(4, "(f"),
-            Step::End,
-            Step::Plain(5, "g)"),
-            Step::End,
-        ],
-    },
-    Case {
-        text: "a (\n",
-        steps: &[
-            Step::Parens(true),
-            Step::Plain(1, "a"),
-            Step::Plain(1, "("),
-            Step::End,
-        ],
-    },
-];
-
-const SCRIPTS: &'static [Case] = &[
-    Case {
-        text: "script\n\n # c\n  a \"\n end  scripts\n end \t script # x\nb\n",
-        steps: &[
-            Step::Plain(1, "script"),
-            Step::End,
-            Step::Script("\n # c\n  a \"\n end  scripts\n"),
-            Step::Plain(7, "b"),
-            Step::End,
-        ],
-    },
-    Case {
-        text: "script\nend script",
-        steps: &[Step::Plain(1, "script"), Step::End, Step::Script("")],
-    },
-    Case {
-        text: "script\nend script#c\nend script #c\nb",
-        steps: &[
-            Step::Plain(1, "script"),
-            Step::End,
-            Step::Script("end script#c\n"),
-            Step::Plain(4, "b"),
-            Step::End,
-        ],
-    },
-    Case {
-        text: "script\nend scripts\nend",
-        steps: &[
-            Step::Plain(1, "script"),
-            Step::End,
-            Step::NoScript,
-            Step::Plain(2, "end"),
-            Step::Plain(2, "scripts"),
-            Step::End,
-            Step::Plain(3, "end"),
-            Step::End,
-        ],
-    },
-];
-
-const COMMANDS: &'static [Case] = &[
-    Case {
-        text: "exec  a 'b  c' \"d\\\"\" \\e\t# f\ng",
-        steps: &[
-            Step::Plain(1, "exec"),
-            Step::Command("a 'b  c' \"d\\\"\" \\e"),
-            Step::End,
-            Step::Plain(2, "g"),
-            Step::End,
-        ],
-    },
-    Case {
-        text: "exec \t a  \t b \t\nc",
-        steps: &[
-            Step::Plain(1, "exec"),
-            Step::Command("a  \t b"),
-            Step::End,
-            Step::Plain(2, "c"),
-            Step::End,
-        ],
-    },
-    Case {
-        text: "exec a#b\nexec a \\# '#'#\nexec a\\ \nc",
-        steps: &[
-            Step::Plain(1, "exec"),
-            Step::Command("a"),
-            Step::End,
-            Step::Plain(2, "exec"),
-            Step::Command("a \\# '#'"),
-            Step::End,
-            Step::Plain(3, "exec"),
-            Step::Command("a\\ "),
-            Step::End,
-            Step::Plain(4, "c"),
-            Step::End,
-        ],
-    },
-    Case {
-        text: "exec\nexec \t# a\nexec \\\n\t\nb\nexec",
-        steps: &[
-            Step::Plain(1, "exec"),
-            Step::Command(""),
-            Step::End,
-            Step::Plain(2, "exec"),
-            Step::Command(""),
-            Step::End,
-            Step::Plain(3, "exec"),
-            Step::Command(""),
-            Step::End,
-            Step::Plain(5, "b"),
-            Step::End,
-            Step::Plain(6, "exec"),
-            Step::Command(""),
-            Step::End,
-        ],
-    },
-    Case {
-        text: "exec a b c d\nexec e f\ng",
-        steps: &[
-            Step::Plain(1, "exec"),
-            Step::Plain(1, "a"),
-            Step::Command("b c d"),
-            Step::Command(""),
-            Step::End,
-            Step::Plain(2, "exec"),
-            Step::Command("e f"),
-            Step::End,
-            Step::Plain(3, "g"),
-            Step::End,
-        ],
-    },
-    Case {
-        text: "exec (a) \u{e9}\u{a0} '\u{20ac}' \\\u{e9}) # b\nc (d)",
-        steps: &[
-            Step::Plain(1, "exec"),
-            Step::Parens(true),
-            Step::Command("(a) \u{e9}\u{a0} '\u{20ac}' \\\u{e9})"),
-            Step::End,
-            Step::Plain(2, "c"),
-            Step::Plain(2, "("),
-            Step::Plain(2, "d"),
-            Step::Plain(2, ")"),
-            Step::End,
-        ],
-    },
-    Case {
-        text: "exec \" ' \" ' \" ' $ \\\\ # \"",
-        steps: &[
-            Step::Plain(1, "exec"),
-            Step::Command("\" ' \" ' \" ' $ \\\\"),
-            Step::End,
-        ],
-    },
-];
-
-const JOINED_COMMANDS: &'static [Case] = &[
-    Case {
-        text: "exec a \\\n  \\\n\t b\\\nc\nd",
-        steps: &[
-            Step::Plain(1, "exec"),
-            Step::Command("a b c"),
-            Step::End,
-            Step::Plain(5, "d"),
-            Step::End,
-        ],
-    },
-    Case {
-        text: "exec \\\n a  b \\\n # c\nd",
-        steps: &[
-            Step::Plain(1, "exec"),
-            Step::Command("a  b"),
-            Step::End,
-            Step::Plain(4, "d"),
-            Step::End,
-        ],
-    },
-    Case {
-        text: "exec \"a  \\\n  b\" 'c \n\n d' \"e\\ \nf\"\ng",
-        steps: &[
-            Step::Plain(1, "exec"),
-            Step::Command("\"a b\" 'c d' \"e\\  f\""),
-            Step::End,
-            Step::Plain(6, "g"),
-            Step::End,
-        ],
-    },
-];
-
-const REFUSED_COMMANDS: &'static [Case] = &[
-    Case {
-        text: "exec a \"b\n\nc",
-        steps: &[
-            Step::Plain(1, "exec"),
-            Step::RefusedCommand(TextFault::UnterminatedQuote),
-            Step::RefusedCommand(TextFault::UnterminatedQuote),
-            Step::Plain(1, "a"),
-            Step::Refused(1, TextFault::UnterminatedQuote),
-        ],
-    },
-    Case {
-        text: "exec a \\\n b\\",
-        steps: &[
-            Step::Plain(1, "exec"),
-            Step::RefusedCommand(TextFault::TrailingBackslash),
-            Step::RefusedCommand(TextFault::TrailingBackslash),
-            Step::Plain(1, "a"),
-            Step::Refused(2, TextFault::TrailingBackslash),
-        ],
-    },
-    Case {
-        text: "exec a # '\nb",
-        steps: &[
-            Step::Plain(1, "exec"),
-            Step::Command("a"),
-            Step::End,
-            Step::Plain(2, "b"),
-            Step::End,
-        ],
-    },
-];
-
-type Read = Result<Option<Token>, TextFault>;
-
-fn is_token(read: &Read, line: u32, text: &str, plain: bool) -> bool {
-    match read {
-        Ok(Some(token)) => token.line == line && token.text.is(text) && token.plain == plain,
-        _ => false,
-    }
-}
-
-fn is_read(read: &Read, step: Step) -> bool {
-    match step {
-        Step::Plain(line, text) => is_token(read, line, text, true),
-        Step::Spelled(line, text) => is_token(read, line, text, false),
-        Step::End => matches!(read, Ok(None)),
-        Step::Refused(_, fault) => matches!(read, Err(refused) if *refused == fault),
-        _ => false,
-    }
-}
-
-fn is_script(read: &Result<Option<Text>, TextFault>, lines: Option<&str>) -> bool {
-    match (read, lines) {
-        (Ok(Some(script)), Some(lines)) => script.is(lines),
-        (Ok(None), None) => true,
-        _ => false,
-    }
-}
-
-fn is_command(read: &Result<Text, TextFault>, text: &str) -> bool {
-    matches!(read, Ok(command) if command.is(text))
-}
-
-fn is_refused(read: &Result<Text, TextFault>, fault: TextFault) -> bool {
-    matches!(read, Err(refused) if *refused == fault)
-}
-
-// Where one allocation is made to fail, the next call reads the same; here and below.
-fn next(alloc: Global, lexer: &mut Lexer) -> Read {
-    match lexer.next(alloc) {
-        Err(TextFault::Memory) => lexer.next(alloc),
-        read => read,
-    }
-}
-
-fn script(alloc: Global, lexer: &mut Lexer) -> Result<Option<Text>, TextFault> {
-    match lexer.script_lines(alloc) {
-        Err(TextFault::Memory) => lexer.script_lines(alloc),
-        read => read,
-    }
-}
-
-fn command(alloc: Global, lexer: &mut Lexer) -> Result<Text, TextFault> {
-    match lexer.command_text(alloc) {
-        Err(TextFault::Memory) => lexer.command_text(alloc),
-        read => read,
-    }
-}
-
-// The line on which a step's token begins.
-fn line_of(step: Step) -> Option<u32> {
-    match step {
-        Step::Plain(line, _) | Step::Spelled(line, _) | Step::Refused(line, _) => Some(line),
+// What stands behind the number of a line, if it is this line.
+fn after_line(words: &str, line: u32) -> Option<&str> {
+    match words.split_once(' ') {
+        Some((number, after)) if is_number(number, line) => Some(after),
         _ => None,
     }
 }
 
-fn is_next(alloc: Global, lexer: &mut Lexer, step: Step) -> bool {
-    match line_of(step) {
-        Some(line) if lexer.line() != line => false,
-        _ => is_read(&next(alloc, lexer), step),
+fn is_token(token: &Token, line: u32, word: &str, words: &str) -> bool {
+    let kind = if token.plain { "plain" } else { "spelled" };
+    match after_line(words, line) {
+        Some(text) => token.line == line && word == kind && token.text.is(text),
+        None => false,
+    }
+}
+
+fn is_refused(fault: TextFault, line: u32, words: &str) -> bool {
+    match after_line(words, line) {
+        Some(number) => is_number(number, u32::from(fault.number())),
+        None => false,
+    }
+}
+
+// Where one allocation is made to fail, the next call reads the same; here and below.
+fn gives_token(alloc: Global, lexer: &mut Lexer, word: &str, words: &str) -> bool {
+    let line = lexer.line();
+    let read = match lexer.next(alloc) {
+        Err(TextFault::Memory) => lexer.next(alloc),
+        read => read,
+    };
+    match read {
+        Ok(Some(token)) => {
+            let is_token = is_token(&token, line, word, words);
+            drop(token);
+            is_token
+        }
+        Ok(None) => word == "end",
+        Err(fault) => word == "refused" && is_refused(fault, line, words),
+    }
+}
+
+fn gives_script(alloc: Global, lexer: &mut Lexer, lines: Option<&str>) -> bool {
+    let read = match lexer.script_lines(alloc) {
+        Err(TextFault::Memory) => lexer.script_lines(alloc),
+        read => read,
+    };
+    match read {
+        Ok(Some(script)) => {
+            let is_script = lines == Some(script.as_str());
+            drop(script);
+            is_script
+        }
+        Ok(None) => lines.is_none(),
+        Err(_) => false,
+    }
+}
+
+fn gives_command(alloc: Global, lexer: &mut Lexer, word: &str, words: &str) -> bool {
+    let read = match lexer.command_text(alloc) {
+        Err(TextFault::Memory) => lexer.command_text(alloc),
+        read => read,
+    };
+    match read {
+        Ok(command) => {
+            let is_command = word == "command" && command.is(words);
+            drop(command);
+            is_command
+        }
+        Err(fault) => word == "no-command" && is_number(words, u32::from(fault.number())),
     }
 }
 
 // Whether a lexer takes a step.
-fn takes(alloc: Global, lexer: &mut Lexer, step: Step) -> bool {
-    match step {
-        Step::Parens(on) => {
-            lexer.parens(on);
+fn takes(alloc: Global, lexer: &mut Lexer, step: &str) -> bool {
+    let (word, words) = step.split_once(' ').unwrap_or((step, ""));
+    if lexer.at_end() {
+        return word == "nothing";
+    }
+    match word {
+        "nothing" => false,
+        "more" => true,
+        "parens" => {
+            lexer.parens(words == "on");
             true
         }
-        Step::Script(lines) => is_script(&script(alloc, lexer), Some(lines)),
-        Step::NoScript => is_script(&script(alloc, lexer), None),
-        Step::Command(text) => is_command(&command(alloc, lexer), text),
-        Step::RefusedCommand(fault) => is_refused(&command(alloc, lexer), fault),
-        _ => is_next(alloc, lexer, step),
+        "script" => gives_script(alloc, lexer, Some(words)),
+        "no-script" => gives_script(alloc, lexer, None),
+        "command" | "no-command" => gives_command(alloc, lexer, word, words),
+        _ => gives_token(alloc, lexer, word, words),
     }
 }
 
-// The place of the first step that a lexer doesn't take. After the last one comes the end, but for a lexer that stays if it refuses.
-fn first_other(alloc: Global, lexer: &mut Lexer, steps: &[Step]) -> Option<usize> {
-    let mut refused = false;
-    for (place, step) in steps.iter().enumerate() {
-        if lexer.at_end() || !takes(alloc, lexer, *step) {
+// The place of the first step that a lexer doesn't take.
+fn first_other(alloc: Global, lexer: &mut Lexer, steps: &str) -> Option<usize> {
+    for (place, step) in steps.split('|').enumerate() {
+        if !takes(alloc, lexer, step) {
             return Some(place);
-        }
-        refused = matches!(step, Step::Refused(..));
-    }
-    if lexer.at_end() == refused {
-        Some(steps.len())
-    } else {
-        None
-    }
-}
-
-// The places of the first case that isn't read so, and of the step of it.
-fn first_misread(alloc: Global, cases: &[Case]) -> Option<(usize, usize)> {
-    for (place, case) in cases.iter().enumerate() {
-        if case.text.len() > 99 {
-            return Some((place, 0));
-        }
-        if let Some(step) = first_other(alloc, &mut Lexer::new(case.text), case.steps) {
-            return Some((place, step));
         }
     }
     None
 }
 
-#[test]
-fn reads_tokens(rt: HostRuntime) {
-    assert_eq!(rt; first_misread(rt.alloc(), TOKENS), None);
+fn check(alloc: Global, cases: &[Case]) -> Result<(), Fail> {
+    for case in cases {
+        if case.0.len() > 99 {
+            return Err(Fail::from(case.0));
+        }
+        if let Some(step) = first_other(alloc, &mut Lexer::new(case.0), case.1) {
+            return Err(Fail::new(format_args!("{:?}: step {step}", case.0)));
+        }
+    }
+    Ok(())
 }
 
 #[test]
-fn reads_parentheses(rt: HostRuntime) {
-    assert_eq!(rt; first_misread(rt.alloc(), PARENS), None);
-}
-
-#[test]
-fn reads_scripts(rt: HostRuntime) {
-    assert_eq!(rt; first_misread(rt.alloc(), SCRIPTS), None);
-}
-
-#[test]
-fn reads_commands(rt: HostRuntime) {
-    assert_eq!(rt; first_misread(rt.alloc(), COMMANDS), None);
-}
-
-#[test]
-fn joins_lines_of_commands(rt: HostRuntime) {
-    assert_eq!(rt; first_misread(rt.alloc(), JOINED_COMMANDS), None);
-}
-
-#[test]
-fn refuses_commands(rt: HostRuntime) {
-    assert_eq!(rt; first_misread(rt.alloc(), REFUSED_COMMANDS), None);
+fn lexers_read(rt: HostRuntime) -> Result<(), Fail> {
+    check(rt.alloc(), CASES)
 }
 
 // Texts, each with its first word and what stands after it.
@@ -524,16 +255,19 @@ const WORDS: &'static [(&'static str, &'static str, &'static str)] = &[
     ("", "", ""),
 ];
 
-fn begins(text: &str, word: &str, after: &str) -> bool {
-    let found = next_word(text);
-    found.0 == word && found.1 == after
+fn check_words(words: &[(&'static str, &'static str, &'static str)]) -> Result<(), Fail> {
+    for case in words {
+        let found = next_word(case.0);
+        if found.0 != case.1 || found.1 != case.2 {
+            return Err(Fail::from(case.0));
+        }
+    }
+    Ok(())
 }
 
 #[test]
-fn words_stand_between_blanks(rt: HostRuntime) {
-    for (text, word, after) in WORDS {
-        assert!(rt; begins(text, word, after), "{text:?}");
-    }
+fn words_stand_between_blanks() -> Result<(), Fail> {
+    check_words(WORDS)
 }
 
 /// Texts, and what is left of them without their comments.
@@ -556,10 +290,16 @@ fn leaves(alloc: Global, text: &[u8], left: &[u8]) -> Result<bool, AllocError> {
     Ok(bytes.as_slice() == left)
 }
 
-#[test]
-fn comments_are_taken_out(rt: HostRuntime) -> Result<(), Fail> {
-    for (text, left) in COMMENTED {
-        assert!(rt; leaves(rt.alloc(), text, left)?, "of {text:?}");
+fn check_comments(alloc: Global, cases: &[(&[u8], &[u8])]) -> Result<(), Fail> {
+    for (place, case) in cases.iter().enumerate() {
+        if !leaves(alloc, case.0, case.1)? {
+            return Err(Fail::new(format_args!("text {place}")));
+        }
     }
     Ok(())
+}
+
+#[test]
+fn comments_are_taken_out(rt: HostRuntime) -> Result<(), Fail> {
+    check_comments(rt.alloc(), COMMENTED)
 }

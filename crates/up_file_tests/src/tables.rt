@@ -1,0 +1,65 @@
+//! What tables of cases share.
+//!
+//! Most tables are texts: the prover goes through each string of an array, and through none of a text.
+use std::alloc::{AllocError, Global};
+use std::fmt::Display;
+
+/// The three fields of a row, between which are `|`.
+pub(crate) fn fields(row: &str) -> Option<(&str, &str, &str)> {
+    match row.split_once('|') {
+        Some((first, rest)) => match rest.split_once('|') {
+            Some((second, third)) => Some((first, second, third)),
+            None => None,
+        },
+        None => None,
+    }
+}
+
+/// Whether a text is a number.
+pub(crate) fn is_number(text: &str, number: u32) -> bool {
+    match text.parse::<u32>() {
+        Ok(found) => found == number,
+        Err(_) => false,
+    }
+}
+
+/// Whether a value is printed so.
+pub(crate) fn is_printed<D: Display + Drop>(
+    alloc: Global,
+    value: D,
+    text: &str,
+) -> Result<bool, AllocError> {
+    let printed = format!(in alloc; "{value}")?;
+    let is_text = printed.as_str() == text;
+    drop(printed);
+    Ok(is_text)
+}
+
+/// A head, a piece and how often it is repeated, an end, and how many parentheses close it.
+pub(crate) type Long = (&'static str, &'static str, usize, &'static str, usize);
+
+fn push_times(text: &mut String, piece: &str, times: usize) -> Result<(), AllocError> {
+    for _ in 0..times {
+        text.push_str(piece)?;
+    }
+    Ok(())
+}
+
+fn push(text: &mut String, long: &Long) -> Result<(), AllocError> {
+    text.push_str(long.0)?;
+    push_times(text, long.1, long.2)?;
+    text.push_str(long.3)?;
+    push_times(text, ")", long.4)
+}
+
+/// The text that is described.
+pub(crate) fn long_text(alloc: Global, long: &Long) -> Result<String, AllocError> {
+    let mut text = String::new(alloc);
+    match push(&mut text, long) {
+        Ok(()) => Ok(text),
+        Err(refused) => {
+            drop(text);
+            Err(refused)
+        }
+    }
+}
