@@ -1,7 +1,6 @@
 //! The program `initctl`: asks a running init.
 #![tactic(auto)]
 
-use std::io::ErrorKind;
 use std::process::ExitCode;
 use std::rt::Env;
 use std::{env, io};
@@ -16,19 +15,10 @@ fn words_of(rt: &(impl Env + AllocGlobal)) -> io::Result<Vec<String>> {
     Ok(words)
 }
 
-// The status of words that can't be read.
-fn status_of(error: &io::Error) -> ExitStatus {
-    if error.kind() == ErrorKind::OutOfMemory {
-        ExitStatus::Memory
-    } else {
-        ExitStatus::Usage
-    }
-}
-
 fn main(rt: HostRuntime) -> ExitCode {
     let status = match words_of(&rt) {
         Ok(words) => up_client::run(&rt, words.as_slice()),
-        Err(error) => status_of(&error),
+        Err(error) => ExitStatus::of_error(&error, ExitStatus::Usage),
     };
     if status == ExitStatus::Memory {
         // A text that is there from the start: to write it takes no memory.

@@ -2,7 +2,6 @@
 #![tactic(auto)]
 
 use std::fs::{File, OpenOptions};
-use std::io::ErrorKind;
 use std::os::fd::{AsRawFd, IntoRawFd};
 use std::process::ExitCode;
 use std::rt::Env;
@@ -49,19 +48,10 @@ fn run(rt: &HostRuntime) -> io::Result<ExitStatus> {
     }
 }
 
-// The status that an error is.
-fn status_of(error: &io::Error) -> ExitStatus {
-    if error.kind() == ErrorKind::OutOfMemory {
-        ExitStatus::Memory
-    } else {
-        ExitStatus::Unusable
-    }
-}
-
 fn main(rt: HostRuntime) -> ExitCode {
     let status = match run(&rt) {
         Ok(status) => status,
-        Err(error) => status_of(&error),
+        Err(error) => ExitStatus::of_error(&error, ExitStatus::Unusable),
     };
     if status == ExitStatus::Memory {
         // A text that is there from the start: to write it takes no memory.

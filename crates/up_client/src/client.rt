@@ -238,6 +238,6 @@ pub fn run<R: Net + Print + Eprint + Env + AllocGlobal>(rt: &R, words: &[String]
 {
     match run_command(rt, words) {
         Ok(status) => status,
-        Err(_) => ExitStatus::Memory,
+        Err(error) => ExitStatus::from(error),
     }
 }

@@ -333,7 +333,7 @@ pub fn print_refusal<R: Print + Eprint>(rt: &R, error: &Error) -> ExitStatus
         ⊎ (result ≡ status.Unusable) }
 {
     match error.kind() {
-        ErrorKind::OutOfMemory => ExitStatus::Memory,
+        ErrorKind::OutOfMemory => ExitStatus::from(AllocError),
         ErrorKind::DisplayHelp | ErrorKind::DisplayVersion => match error.print(rt) {
             Ok(()) => ExitStatus::Done,
             Err(_) => ExitStatus::Unusable,

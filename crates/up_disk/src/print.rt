@@ -24,6 +24,6 @@ pub fn print(
             writer.flush()?;
             Ok(status)
         }
-        Err(_) => Ok(ExitStatus::Memory),
+        Err(error) => Ok(ExitStatus::from(error)),
     }
 }

@@ -24,3 +24,4 @@ pub mod LeftSums
 pub mod LeftMoves
 pub mod LeftLaws
 pub mod CommandLaws
+pub mod Waiting

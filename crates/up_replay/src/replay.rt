@@ -180,7 +180,7 @@ pub fn replay_bundle<R: Read, W: Write>(alloc: Global, reader: &mut R, writer: &
 {
     match render_read(alloc, read_all(alloc, reader)) {
         Ok(made) => write_printed(writer, &made),
-        Err(_) => ExitStatus::Memory,
+        Err(error) => ExitStatus::from(error),
     }
 }
 

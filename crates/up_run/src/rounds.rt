@@ -7,6 +7,7 @@ use crate::reporter::Reporter;
 use crate::silence::Silences;
 use crate::source::PathSource;
 use crate::start::first_daemon;
+use std::alloc::AllocError;
 use std::fs::OpenFile;
 use std::io::{Eprint, Read, Write};
 use std::process::Processes;
@@ -102,7 +103,7 @@ where
 {
     for _ in 0..count {
         if !round(rt, daemon, (host, door, source), &mut going, reporter) {
-            return ExitStatus::Memory;
+            return ExitStatus::from(AllocError);
         }
     }
     ExitStatus::Done
