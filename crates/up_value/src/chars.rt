@@ -1,5 +1,5 @@
 //! The characters of a text or a name.
-ghost use Rattle.std.specs.Prelude.{◌≡◌, IfOk};
+ghost use Rattle.std.specs.Prelude.{◌≡◌, [], IfOk};
 ghost use Rattle.up_value.specs.Chars.{chars_bytes};
 
 use arrayvec::ArrayString;
@@ -13,6 +13,12 @@ pub(crate) enum Chars {
 }
 
 impl Chars {
+    pub(crate) fn empty() -> Self
+        ensures { chars_bytes result ≡ [] }
+    {
+        Chars::Short(ArrayString::new())
+    }
+
     pub(crate) fn from_str(alloc: Global, text: &str) -> Result<Self, AllocError>
         ensures { IfOk result (λ chars. chars_bytes chars ≡ text.now) }
     {
@@ -39,10 +45,7 @@ impl Chars {
     {
         match self {
             Chars::Short(short) => Ok(Chars::Short(*short)),
-            Chars::Long(long) => {
-                let long = long.clone()?;
-                Ok(Chars::Long(long))
-            }
+            Chars::Long(long) => Chars::from_str(*long.allocator(), long.as_str()),
         }
     }
 }

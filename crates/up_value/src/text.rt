@@ -1,5 +1,5 @@
 //! A text that contracts see as the list of its bytes.
-ghost use Rattle.std.specs.Prelude.{◌≡◌, ◌↔◌, IfOk, IfSome, IsTrue, MatchOption, false, length, string_bytes, true};
+ghost use Rattle.std.specs.Prelude.{◌≡◌, [], ◌↔◌, IfOk, IfSome, IsTrue, MatchOption, false, length, string_bytes, true};
 ghost use Rattle.std.specs.Str.{bytes_eq, is_utf8};
 
 use crate::chars::Chars;
@@ -34,6 +34,15 @@ impl Clone for Text {
 }
 
 impl Text {
+    /// The text without characters. Takes no memory.
+    pub fn empty() -> Self
+        ensures { result ≡ [] }
+    {
+        Text {
+            chars: Chars::empty(),
+        }
+    }
+
     /// Takes over a string without copying.
     pub fn new(text: String) -> Self
         ensures { result ≡ string_bytes text }
