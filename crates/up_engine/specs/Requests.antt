@@ -45,12 +45,12 @@ RefusesStart text who instance c = (places : List ℕ) (job : JobDef) (environme
     → model.start_at places job who environment instance c ≡ unless text (model.Done (start_of job who environment places instance c))
 
 -- what a request to start the instance of a name comes to, in this environment and with what belongs to the instance
-abbrev pub start_named : JobDef → Who → Bindings → (places : List ℕ) → Chronicle → model.Outcome
-start_named file who environment places c = model.start_at places file who (with_instance who environment) (instance_named who c) c
+abbrev pub outcome_of_start : JobDef → Who → Bindings → (places : List ℕ) → Chronicle → model.Outcome
+outcome_of_start file who environment places c = model.start_at places file who (with_instance who environment) (instance_named who c) c
 
 -- the client of the last input waits for its request, if that is so
-abbrev pub IsAwaited : Bool → Input → Chronicle → Type 0
-IsAwaited wait given c = request_place (Given given ∷ c) ≡ (if wait then Some (length c) else None)
+abbrev pub IsClientWaiting : Bool → Input → Chronicle → Type 0
+IsClientWaiting wait given c = request_place (Given given ∷ c) ≡ (if wait then Some (length c) else None)
 
 -- the answer that an outcome is told at once
 abbrev pub answer_of : model.Outcome → Answer

@@ -5,7 +5,7 @@ ghost use Rattle.up_model.specs.declared.event_id.EventId.{EventId as EventIdVal
 ghost use Rattle.up_book.specs.Keys.{job_at, Mode, Resting, Stepping, held_as, name_at, instance_place, given_place};
 ghost use Rattle.up_engine.specs.Effects.{ActsOn, Concerns, IsCalled};
 ghost use Rattle.up_book.specs.Histories.{OfInstance};
-ghost use Rattle.up_engine.specs.Requests.{target_of as said_of, IsIndexed, Does, DoesBy, DoesTo, DoesToBy, ActsBy, IsAwaited, RefusesStart, Tells, start_named, with_outcome};
+ghost use Rattle.up_engine.specs.Requests.{target_of as said_of, IsIndexed, Does, DoesBy, DoesTo, DoesToBy, ActsBy, IsClientWaiting, RefusesStart, Tells, outcome_of_start, with_outcome};
 ghost use Rattle.up_model.specs.declared.input.Input.{Input as InputValue};
 ghost use Rattle.up_model.specs.declared.input.Input.TheVariants as given_as;
 ghost use Rattle.up_model.specs.Chronicle.{Chronicle};
@@ -135,7 +135,7 @@ fn start_who<B: Book>(
     ensures { OnOk result ((config : Configuration)
         → name_at config index ≡ Some who.now.job → job_at config index ≡ Some file.now
         → DoesBy holders (B.event_place book.old) (B.stands book.old Stepping) (B.stands book.new Stepping) config
-        (start_named file.now who.now environment)) }
+        (outcome_of_start file.now who.now environment)) }
 {
     match start_refusal(alloc, book, index, who)? {
         Some(text) => {
@@ -493,7 +493,7 @@ fn change<B: Book>(
 ) -> Result<Concern, AllocError>
     ensures after { OnOk result ((c : Chronicle) (input : InputValue)
         → B.stands book.old Stepping setup.now (entry.Given input ∷ c)
-        → IsAwaited request.wait input c
+        → IsClientWaiting request.wait input c
         → B.stands book.new Stepping setup.now
         (with_outcome input (λ given. model.outcome_of setup.now given request) c)) }
     ensures concerns { IfOk result (λ concern. (c : Chronicle) (id : ℕ)

@@ -46,22 +46,22 @@ TakesHolders old new key holders entry = (config : Configuration) (c : Chronicle
     → AreOlder (length c) events → AllLive old.events holders → Forgets new config (entry i events ∷ c)
 
 -- what is said of a history, of an instance of this file and of an event holds of each that a book forgets: an event is offered to a `stop on`
-abbrev pub OfStopOffer : Past → InstanceKey → JobDef → EventId → (Configuration → Chronicle → (instance event : ℕ) → Type 0) → Type 0
-OfStopOffer book key file event says = (config : Configuration) (c : Chronicle) (i e : ℕ) → Forgets book config c
+abbrev pub OfPastStopOffer : Past → InstanceKey → JobDef → EventId → (Configuration → Chronicle → (instance event : ℕ) → Type 0) → Type 0
+OfPastStopOffer book key file event says = (config : Configuration) (c : Chronicle) (i e : ℕ) → Forgets book config c
     → instance_place book c key ≡ Some i → file_of i c ≡ Some file → event_place book c event ≡ Some e → says config c i e
 
 -- the same of an event that is offered to the `start on` of a job, by its place in the table and its environment
-abbrev pub OfStartOffer : Past → List Place → (place : ℕ) → JobDef → Bindings → EventId → (Configuration → Chronicle → (event : ℕ) → Type 0) → Type 0
-OfStartOffer book index place job env event says = (config : Configuration) (c : Chronicle) (e : ℕ) → Forgets book config c
+abbrev pub OfPastStartOffer : Past → List Place → (place : ℕ) → JobDef → Bindings → EventId → (Configuration → Chronicle → (event : ℕ) → Type 0) → Type 0
+OfPastStartOffer book index place job env event says = (config : Configuration) (c : Chronicle) (e : ℕ) → Forgets book config c
     → nth place config.jobs ≡ Some job → env ≡ env_of_job config job.name → HasLeaves index place true job.start_on
     → event_place book c event ≡ Some e → says config c e
 
 -- the same of a `stop on` that fires, whatever events the history says that it takes
-abbrev pub OfStopFiring : Past → InstanceKey → JobDef → (Configuration → Chronicle → (instance : ℕ) → (events : List ℕ) → Type 0) → Type 0
-OfStopFiring book key file says = (config : Configuration) (c : Chronicle) (i : ℕ) (events : List ℕ) → Forgets book config c
+abbrev pub OfPastStopFiring : Past → InstanceKey → JobDef → (Configuration → Chronicle → (instance : ℕ) → (events : List ℕ) → Type 0) → Type 0
+OfPastStopFiring book key file says = (config : Configuration) (c : Chronicle) (i : ℕ) (events : List ℕ) → Forgets book config c
     → instance_place book c key ≡ Some i → file_of i c ≡ Some file → says config c i events
 
 -- and of a `start on`
-abbrev pub OfStartFiring : Past → (place : ℕ) → JobDef → (Configuration → Chronicle → (events : List ℕ) → Type 0) → Type 0
-OfStartFiring book place job says = (config : Configuration) (c : Chronicle) (events : List ℕ) → Forgets book config c
+abbrev pub OfPastStartFiring : Past → (place : ℕ) → JobDef → (Configuration → Chronicle → (events : List ℕ) → Type 0) → Type 0
+OfPastStartFiring book place job says = (config : Configuration) (c : Chronicle) (events : List ℕ) → Forgets book config c
     → nth place config.jobs ≡ Some job → says config c events

@@ -2,7 +2,7 @@
 ghost use Rattle.std.specs.Prelude.{◌≡◌, ◌∷◌, ℕ, map, Some, IfOk, OnOk};
 ghost use Rattle.up_ledger.specs.Eventing.{SamePlaces};
 ghost use Rattle.up_ledger.specs.Hearing.{Fires, Hears, start_leaves, trigger_at, trigger_in};
-ghost use Rattle.up_ledger.specs.Histories.{OfStartFiring, OfStartOffer, OfStopFiring, OfStopOffer};
+ghost use Rattle.up_ledger.specs.Histories.{OfPastStartFiring, OfPastStartOffer, OfPastStopFiring, OfPastStopOffer};
 ghost use Rattle.up_book.specs.Histories.{start_events, stop_events};
 ghost use Rattle.up_event.specs.LiveEvents.{named as named_event};
 ghost use Rattle.up_event.specs.declared.live.LiveEvent.{LiveEvent as LiveEventValue};
@@ -95,9 +95,9 @@ impl Past {
         file: &JobFile,
         id: EventId,
     ) -> Result<bool, AllocError>
-        ensures after { OnOk result (OfStopOffer self.old key file.now id (λ config c i e.
+        ensures after { OnOk result (OfPastStopOffer self.old key file.now id (λ config c i e.
             Forgets self.new config (entry.Offered (entry.StopOn i) e ∷ c))) }
-        ensures holds { IfOk result (λ holds. OfStopOffer self.old key file.now id (λ config c i e.
+        ensures holds { IfOk result (λ holds. OfPastStopOffer self.old key file.now id (λ config c i e.
             holds ≡ seen.holds file.now.stop_on
             (seen.seen config (entry.StopOn i) (entry.Offered (entry.StopOn i) e ∷ c)))) }
         ensures places { OnOk result (SamePlaces self.new.events self.old.events) }
@@ -157,9 +157,9 @@ impl Past {
         env: &Env,
         id: EventId,
     ) -> Result<bool, AllocError>
-        ensures after { OnOk result (OfStartOffer self.old index.now place job.now env.now id (λ config c e.
+        ensures after { OnOk result (OfPastStartOffer self.old index.now place job.now env.now id (λ config c e.
             Forgets self.new config (entry.Offered (entry.StartOn job.now.name) e ∷ c))) }
-        ensures holds { IfOk result (λ holds. OfStartOffer self.old index.now place job.now env.now id (λ config c e.
+        ensures holds { IfOk result (λ holds. OfPastStartOffer self.old index.now place job.now env.now id (λ config c e.
             holds ≡ seen.holds job.now.start_on
             (seen.seen config (entry.StartOn job.now.name) (entry.Offered (entry.StartOn job.now.name) e ∷ c)))) }
         ensures places { OnOk result (SamePlaces self.new.events self.old.events) }
@@ -192,9 +192,9 @@ impl Past {
         key: InstanceKey,
         job: &JobDef,
     ) -> Result<Items<EventId>, AllocError>
-        ensures after { OnOk result (OfStopFiring self.old key job.now (λ config c i ts.
+        ensures after { OnOk result (OfPastStopFiring self.old key job.now (λ config c i ts.
             Forgets self.new config (entry.Fired (entry.StopOn i) ts ∷ c))) }
-        ensures taken { IfOk result (λ taken. OfStopFiring self.old key job.now (λ config c i ts.
+        ensures taken { IfOk result (λ taken. OfPastStopFiring self.old key job.now (λ config c i ts.
             map (event_place self.new (entry.Fired (entry.StopOn i) ts ∷ c)) taken
             ≡ map Some (stop_events config job.now i c))) }
         ensures places { OnOk result (SamePlaces self.new.events self.old.events) }
@@ -229,9 +229,9 @@ impl Past {
         place: usize,
         job: &JobDef,
     ) -> Result<Items<EventId>, AllocError>
-        ensures after { OnOk result (OfStartFiring self.old place job.now (λ config c ts.
+        ensures after { OnOk result (OfPastStartFiring self.old place job.now (λ config c ts.
             Forgets self.new config (entry.Fired (entry.StartOn job.now.name) ts ∷ c))) }
-        ensures taken { IfOk result (λ taken. OfStartFiring self.old place job.now (λ config c ts.
+        ensures taken { IfOk result (λ taken. OfPastStartFiring self.old place job.now (λ config c ts.
             map (event_place self.new (entry.Fired (entry.StartOn job.now.name) ts ∷ c)) taken
             ≡ map Some (start_events config job.now c))) }
         ensures places { OnOk result (SamePlaces self.new.events self.old.events) }
