@@ -12,7 +12,7 @@ use std::marker::Model;
 use std::rc::Rc;
 
 /// Distinct keys with values, seen by contracts as the list of their pairs in order. Copies share the pairs until one of them changes.
-#[derive(Debug, Drop)]
+#[derive(Debug)]
 pub struct Env {
     alloc: Global,
     // `None` if there is no pair.
@@ -219,6 +219,14 @@ fn share(
             Ok(Some(shared))
         }
         None => Ok(None),
+    }
+}
+
+// Written out, so that a caller sees one call where it drops an environment, with or without pairs.
+impl Drop for Env {
+    fn drop(self) {
+        let Env { alloc: _, pairs } = self;
+        drop(pairs);
     }
 }
 

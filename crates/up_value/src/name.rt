@@ -10,7 +10,7 @@ use std::alloc::{AllocError, Global};
 use std::marker::Model;
 
 /// The name of a job or an event, seen by contracts as the list of its bytes.
-#[derive(Debug, Drop)]
+#[derive(Debug)]
 pub struct Name {
     chars: Chars,
 }
@@ -49,6 +49,14 @@ pub fn is_name(text: &str) -> bool
     ensures { result ≡ is_name text.now }
 {
     !text.is_empty() && are_name_bytes(text.as_bytes())
+}
+
+// Written out, so that a caller sees one call where it drops a name, wherever the characters are.
+impl Drop for Name {
+    fn drop(self) {
+        let Name { chars } = self;
+        drop(chars);
+    }
 }
 
 impl Name {

@@ -9,7 +9,7 @@ use std::marker::Model;
 use std::str;
 
 /// UTF-8 text, seen by contracts as the list of its bytes.
-#[derive(Debug, Drop)]
+#[derive(Debug)]
 pub struct Text {
     chars: Chars,
 }
@@ -30,6 +30,14 @@ impl Clone for Text {
 
     fn clone(&self) -> Result<Self, AllocError> {
         self.copy()
+    }
+}
+
+// Written out, so that a caller sees one call where it drops a text, wherever the characters are.
+impl Drop for Text {
+    fn drop(self) {
+        let Text { chars } = self;
+        drop(chars);
     }
 }
 
