@@ -4,7 +4,6 @@
 //! without their addresses in memory.
 #![tactic(auto)]
 
-mod chars;
 pub mod env;
 pub mod fault;
 pub mod items;
