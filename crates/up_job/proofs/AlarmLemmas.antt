@@ -2,7 +2,6 @@
 use Rattle.std.proofs.Common.{◌≡◌, ℕ, zero, suc, ◌≤◌, nat_lt, Bool, true, false, List, [], ◌∷◌, map, Option, None, Some, if◌then◌else◌, refl, arith}
 use Rattle.up_conf.specs.Order.{is_below}
 use Rattle.up_conf.specs.declared.job.JobDef.{JobDef}
-use Rattle.up_model.specs.declared.event_id.EventId.{EventId}
 use Rattle.up_model.specs.declared.state.State.{State}
 use Rattle.up_model.specs.declared.state.State.TheVariants.{Starting}
 use Rattle.up_job.specs.declared.change.Change.{Change}
@@ -14,7 +13,6 @@ use Rattle.up_job.specs.Changes.{changed, entered}
 use Rattle.up_job.specs.JobLists.{changed_in, new_job, removed_in, with_made}
 use Rattle.up_job.specs.Lists.{with_at, with_named, without_at}
 use Rattle.up_job.specs.Timers.{kill_at}
-use Rattle.up_job.specs.Unblocking.{unblocked, unblocked_in}
 
 -- an earlier alarm
 earlier-one : (b a : ℕ) (o : Option ℕ) → b ≤ a → IsFrom a o → IsFrom b o
@@ -77,15 +75,6 @@ from-made alarm y new job from = among job.instances from
             → AreFrom alarm (if b then x ∷ with_named (λ i. i.name) y xs else y ∷ x ∷ xs)
         by_case true rest = (from.0, rest)
         by_case false rest = (new, from)
-
--- none is another after an event has finished
-from-unblocked : (alarm : ℕ) (id : EventId) (xs : List Instance) → AreFrom alarm xs → AreFrom alarm (map (unblocked id) xs)
-from-unblocked alarm id [] from = tt
-from-unblocked alarm id (x ∷ xs) from = (from.0, from-unblocked alarm id xs from.1)
-
-pub all-unblocked : (alarm : ℕ) (id : EventId) (jobs : List JobInstances) → AllFrom alarm jobs → AllFrom alarm (map (unblocked_in id) jobs)
-all-unblocked alarm id [] from = tt
-all-unblocked alarm id (job ∷ jobs) from = (from-unblocked alarm id job.instances from.0, all-unblocked alarm id jobs from.1)
 
 -- the alarm after a change is no later
 least : (at alarm : ℕ) → (if nat_lt at alarm then at else alarm) ≤ alarm

@@ -1,7 +1,6 @@
 -- The list of a job's instances after each change.
 use Rattle.std.proofs.Common.{◌≡◌, ℕ, ◌<◌, List, None, map, length, refl, ap, arith}
 use Rattle.std.proofs.lemmas.List.{length-map}
-use Rattle.up_model.specs.declared.event_id.EventId.{EventId}
 use Rattle.up_model.specs.declared.state.State.{State}
 use Rattle.up_model.specs.declared.state.State.TheVariants.{Starting}
 use Rattle.up_model.specs.Values.{Bytes}
@@ -11,9 +10,8 @@ use Rattle.up_job.specs.declared.instance.Instance.{Instance}
 use Rattle.up_job.specs.Changes.{changed, entered}
 use Rattle.up_job.specs.InstanceLists.{name_of, named, with_change, with_instance, without, max_instances, IsInstanceList}
 use Rattle.up_job.specs.Lists.{with_at, without_at}
-use Rattle.up_job.specs.Unblocking.{unblocked}
 use Rattle.up_job.proofs.NamedLemmas.{order_put, order_without, order-names, names-with_change, length_put, length_without}
-use Rattle.up_job.proofs.Places.{length-without_at, map-map, map-with_at, order-without_at}
+use Rattle.up_job.proofs.Places.{length-without_at, map-with_at, order-without_at}
 
 name-entered : (state : State) (instance : Instance) → (entered state instance).name ≡ instance.name
 name-entered Starting instance = refl
@@ -54,6 +52,3 @@ list_with_change name its xs = list-names xs (with_change name (changed its) xs)
 
 pub list_with_at : (at : ℕ) (f : Instance → Instance) → ((x : Instance) → name_of (f x) ≡ name_of x) → (xs : List Instance) → IsInstanceList xs → IsInstanceList (with_at at f xs)
 list_with_at at f same xs = list-names xs (with_at at f xs) (map-with_at name_of f same at xs)
-
-pub list_unblocked : (id : EventId) (xs : List Instance) → IsInstanceList xs → IsInstanceList (map (unblocked id) xs)
-list_unblocked id xs = list-names xs (map (unblocked id) xs) (map-map name_of (unblocked id) (λ x. refl) xs)

@@ -2,7 +2,6 @@
 use Rattle.std.proofs.Common.{◌≡◌, ℕ, ◌<◌, Bool, true, false, cond, List, [], ◌∷◌, Option, None, Some, Result, Ok, Err, OnOk, OnErr, IsSome, option_map, map, length, get_or, set, insert, bytes_eq, refl, sym, ◌∙◌, ap, subst, true≢false}
 use Rattle.up_conf.specs.declared.job.JobDef.{JobDef}
 use Rattle.up_conf.specs.Order.{is_below}
-use Rattle.up_model.specs.declared.event_id.EventId.{EventId}
 use Rattle.up_job.specs.declared.instance.Instance.{Instance}
 use Rattle.up_job.specs.declared.instance_key.InstanceKey.{InstanceKey}
 use Rattle.up_job.specs.declared.instances.JobInstances.{JobInstances}
@@ -10,9 +9,8 @@ use Rattle.up_job.specs.JobLists.{file_name, job_of, list_of, instance_at, insta
 use Rattle.up_job.specs.InstanceLists as list
 use Rattle.up_job.specs.Lists.{nth, with_at}
 use Rattle.up_job.specs.Named.{named, position, put, with_change, AreInOrder, IsBelowAll}
-use Rattle.up_job.specs.Unblocking.{unblocked_in}
 use Rattle.up_job.proofs.NamedLemmas.{same_bytes, named_here, put_at, order_put, named_put, changed_here, order-names, names-with_change, named_changed}
-use Rattle.up_job.proofs.Places.{map-map, map-with_at, nth_get, nth_within}
+use Rattle.up_job.proofs.Places.{map-with_at, nth_get, nth_within}
 use Rattle.up_model.specs.Values.{Bytes}
 
 pub on_ok : {A E P Q : Type 0} (r : Result A E) → (P → Q) → OnOk r P → OnOk r Q
@@ -106,10 +104,6 @@ pub order-files : (f : JobDef → JobInstances) → ((job : JobDef) → job_of (
 order-files f keeps [] order = tt
 order-files f keeps (job ∷ jobs) order =
     (subst (λ k. IsBelowAll job_of k (map f jobs)) (sym (keeps job)) (below_all-files f keeps job.name jobs order.0), order-files f keeps jobs order.1)
-
--- no job is another one after an event has finished
-pub order-unblocked : (id : EventId) (jobs : List JobInstances) → AreInOrder job_of jobs → AreInOrder job_of (map (unblocked_in id) jobs)
-order-unblocked id jobs = order-names job_of jobs (map (unblocked_in id) jobs) (map-map job_of (unblocked_in id) (λ x. refl) jobs)
 
 -- jobs stay in order if one changes, or none where the change is refused
 pub order-if_ok : {A E : Type 0} (r : Result A E) (place : ℕ) (f : JobInstances → JobInstances) → ((x : JobInstances) → job_of (f x) ≡ job_of x) → (old new : List JobInstances)

@@ -51,10 +51,6 @@ map-with_at view f same place [] = refl
 map-with_at view f same zero (x ∷ xs) = cons_same (sym (same x)) refl
 map-with_at view f same (suc place) (x ∷ xs) = cons_same refl (map-with_at view f same place xs)
 
-pub map-map : {X Y : Type 0} (view : X → Y) (f : X → X) → ((x : X) → view (f x) ≡ view x) → (xs : List X) → map view xs ≡ map view (map f xs)
-map-map view f same [] = refl
-map-map view f same (x ∷ xs) = cons_same (sym (same x)) (map-map view f same xs)
-
 pub length-without_at : {X : Type 0} (place : ℕ) (xs : List X) → length (without_at place xs) ≤ length xs
 length-without_at place [] = omega arith
 length-without_at zero (x ∷ xs) = omega arith

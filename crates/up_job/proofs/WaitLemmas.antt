@@ -1,7 +1,6 @@
 -- Lists of instances of which none waits for an event.
-use Rattle.std.proofs.Common.{◌≡◌, ℕ, zero, suc, ◌+◌, Bool, true, false, ◌||◌, List, [], ◌∷◌, map, Option, None, Some, is_some, bytes_eq, if◌then◌else◌, refl, ◌∙◌, ap}
+use Rattle.std.proofs.Common.{◌≡◌, ℕ, zero, suc, ◌+◌, ◌<◌, nat_lt, Bool, true, false, ◌||◌, ◌&&◌, List, [], ◌∷◌, Option, None, Some, is_some, Result, Ok, Err, OnOk, OnErr, bytes_eq, if◌then◌else◌, refl, sym, ◌∙◌, ap, subst, arith}
 use Rattle.up_conf.specs.Order.{is_below}
-use Rattle.up_conf.specs.declared.job.JobDef.{JobDef}
 use Rattle.up_model.specs.declared.event_id.EventId.{EventId}
 use Rattle.up_model.specs.declared.state.State.{State}
 use Rattle.up_model.specs.declared.state.State.TheVariants.{Starting}
@@ -12,11 +11,10 @@ use Rattle.up_job.specs.declared.instance.Instance.{Instance}
 use Rattle.up_job.specs.declared.instances.JobInstances.{JobInstances}
 use Rattle.up_job.specs.Changes.{changed, entered}
 use Rattle.up_job.specs.InstanceLists.{with_change, with_instance, without}
-use Rattle.up_job.specs.JobLists.{changed_in, new_job, with_made}
+use Rattle.up_job.specs.JobLists.{changed_in, instances_at, with_made}
 use Rattle.up_job.specs.Lists.{with_at, with_named, without_at}
-use Rattle.up_job.specs.Unblocking.{blocked_from, is_event, key_from, NobodyWaits}
+use Rattle.up_job.specs.Unblocking.{AreQuiet, blocked_from, is_event, unblocked, without_id}
 use Rattle.up_job.specs.Waiting.{any_waits, is_wait}
-use Rattle.up_job.proofs.EachJob.{each-with_at}
 
 or-parts : (a b : Bool) → (a || b) ≡ false → (a ≡ false) × (b ≡ false)
 or-parts true b none = absurd cc
@@ -121,17 +119,62 @@ calm-blocked id low (x ∷ xs) none =
     let parts = or-parts (is_some x.blocker) (any_waits xs) none in
     rw (not-event id x.blocker parts.0) (calm-blocked id (low + 1) xs parts.1)
 
--- the instances of all jobs
+-- the instances of the jobs before a place
 
-pub nobody-new : (jobs : List JobDef) → NobodyWaits (map new_job jobs)
-nobody-new [] = tt
-nobody-new (job ∷ jobs) = (refl, nobody-new jobs)
+pub quiet-none : (jobs : List JobInstances) → AreQuiet 0 jobs
+quiet-none jobs job less = absurd (omega (arith, less))
 
-pub nobody-changed : (may : Bool) (its : Change) (at place : ℕ) (jobs : List JobInstances) → (may ≡ false → NobodyWaits jobs) → (may || is_wait its) ≡ false
-    → NobodyWaits (with_at place (changed_in at (changed its)) jobs)
-nobody-changed may its at place jobs before calm =
-    let parts = or-parts may (is_wait its) calm in
-    each-with_at (λ xs. any_waits xs ≡ false) place (changed_in at (changed its)) (λ job none. calm-with_at at (changed its) (calm-changed its parts.1) job.instances none) jobs (before parts.0)
+-- one job changes so that none of its instances begins to wait
+calm-job : (place : ℕ) (f : JobInstances → JobInstances) → ((its : JobInstances) → any_waits its.instances ≡ false → any_waits (f its).instances ≡ false) → (jobs : List JobInstances) (job : ℕ)
+    → any_waits (instances_at job jobs) ≡ false → any_waits (instances_at job (with_at place f jobs)) ≡ false
+calm-job place f keeps [] job none = none
+calm-job zero f keeps (its ∷ jobs) zero none = keeps its none
+calm-job zero f keeps (its ∷ jobs) (suc job) none = none
+calm-job (suc place) f keeps (its ∷ jobs) zero none = none
+calm-job (suc place) f keeps (its ∷ jobs) (suc job) none = calm-job place f keeps jobs job none
+
+pub quiet-with_at : (quiet place : ℕ) (f : JobInstances → JobInstances) → ((its : JobInstances) → any_waits its.instances ≡ false → any_waits (f its).instances ≡ false)
+    → (jobs : List JobInstances) → AreQuiet quiet jobs → AreQuiet quiet (with_at place f jobs)
+quiet-with_at quiet place f keeps jobs before job less = calm-job place f keeps jobs job (before job less)
+
+-- or none, if the change is refused
+pub quiet-if_ok : {A E : Type 0} (r : Result A E) (quiet place : ℕ) (f : JobInstances → JobInstances)
+    → ((its : JobInstances) → any_waits its.instances ≡ false → any_waits (f its).instances ≡ false) → (old new : List JobInstances) → OnOk r (new ≡ with_at place f old) → OnErr r (new ≡ old)
+    → AreQuiet quiet old → AreQuiet quiet new
+quiet-if_ok (Ok x) quiet place f keeps old new ok err before = subst (AreQuiet quiet) (sym ok) (quiet-with_at quiet place f keeps old before)
+quiet-if_ok (Err e) quiet place f keeps old new ok err before = subst (AreQuiet quiet) (sym err) before
+
+-- a job changes somehow, and those before it stay
+earlier-same : (place : ℕ) (f : JobInstances → JobInstances) (jobs : List JobInstances) (job : ℕ) → job < place → instances_at job (with_at place f jobs) ≡ instances_at job jobs
+earlier-same place f [] job less = refl
+earlier-same zero f (its ∷ jobs) job less = absurd (omega (arith, less))
+earlier-same (suc place) f (its ∷ jobs) zero less = refl
+earlier-same (suc place) f (its ∷ jobs) (suc job) less = earlier-same place f jobs job (omega (arith, less))
+
+-- one instance changes; if it begins to wait, the jobs before its own stay quiet
+pub quiet-changed : (quiet : ℕ) (its : Change) (at place : ℕ) (jobs : List JobInstances) → AreQuiet quiet jobs
+    → AreQuiet (if is_wait its && nat_lt place quiet then place else quiet) (with_at place (changed_in at (changed its)) jobs)
+quiet-changed quiet its at place jobs before = by_case (is_wait its) (nat_lt place quiet) refl refl
+  where
+    after : List JobInstances
+    after = with_at place (changed_in at (changed its)) jobs
+
+    earlier : (job : ℕ) → job < place → job < quiet → any_waits (instances_at job after) ≡ false
+    earlier job less within = ap any_waits (earlier-same place (changed_in at (changed its)) jobs job less) ∙ before job within
+
+    by_case : (wait less : Bool) → is_wait its ≡ wait → nat_lt place quiet ≡ less → AreQuiet (if wait && less then place else quiet) after
+    by_case false less calm is =
+        quiet-with_at quiet place (changed_in at (changed its)) (λ job none. calm-with_at at (changed its) (calm-changed its calm) job.instances none) jobs before
+    by_case true true wait is = λ job below. earlier job below (grind (arith, is, below))
+    by_case true false wait is = λ job below. earlier job (grind (arith, is, below)) below
+
+-- an instance waits no longer
+pub calm-unblocked : (id : EventId) (at : ℕ) (its : JobInstances) → any_waits its.instances ≡ false → any_waits (changed_in at (unblocked id) its).instances ≡ false
+calm-unblocked id at its none = calm-with_at at (unblocked id) (λ x. still x.blocker) its.instances none
+  where
+    still : (o : Option EventId) → is_some o ≡ false → is_some (without_id id o) ≡ false
+    still None calm = refl
+    still (Some other) calm = absurd cc
 
 pub calm-made : (y : Instance) → is_some y.blocker ≡ false → (job : JobInstances) → any_waits job.instances ≡ false → any_waits (with_made y job).instances ≡ false
 calm-made y calm job none = among job.instances none
@@ -146,7 +189,3 @@ calm-made y calm job none = among job.instances none
             → any_waits (if b then x ∷ with_named (λ i. i.name) y xs else y ∷ x ∷ xs) ≡ false
         by_case true later = later
         by_case false later = or-both (is_some y.blocker) (any_waits (x ∷ xs)) calm none
-
-pub nobody-blocked : (id : EventId) (low : ℕ) (jobs : List JobInstances) → NobodyWaits jobs → key_from id low jobs ≡ None
-nobody-blocked id low [] none = refl
-nobody-blocked id low (job ∷ jobs) none = rw (calm-blocked id 0 job.instances none.0) (nobody-blocked id (low + 1) jobs none.1)

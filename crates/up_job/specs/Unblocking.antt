@@ -1,11 +1,10 @@
 -- An event that finishes blocks nobody any more.
-use Rattle.std.specs.Prelude.{◌≡◌, ◌+◌, ◌==◌, ℕ, map, Bool, true, false, List, [], ◌∷◌, Option, None, Some, if◌then◌else◌}
-use Rattle.std.specs.List.{AllByRecursion}
+use Rattle.std.specs.Prelude.{◌≡◌, ◌+◌, ◌<◌, ◌==◌, ℕ, map, Bool, true, false, List, [], ◌∷◌, Option, None, Some, if◌then◌else◌}
 use Rattle.up_model.specs.declared.event_id.EventId.{EventId}
 use Rattle.up_job.specs.declared.instance.Instance.{Instance}
 use Rattle.up_job.specs.declared.instance_key.InstanceKey.{InstanceKey}
 use Rattle.up_job.specs.declared.instances.JobInstances.{JobInstances}
-use Rattle.up_job.specs.JobLists.{instance_at}
+use Rattle.up_job.specs.JobLists.{changed_at, instance_at, instances_at}
 use Rattle.up_job.specs.Waiting.{any_waits}
 
 -- whether this is the event of an id
@@ -34,20 +33,16 @@ blocked_from id at [] = None
 blocked_from id at (instance ∷ its) =
     if is_event id instance.blocker then Some at else blocked_from id (at + 1) its
 
-abbrev pub key_or : ℕ → Option ℕ → Option InstanceKey → Option InstanceKey
-key_or job None later = later
-key_or job (Some at) later = Some (record { job = job; at = at })
-
--- the first of all, where the first of these jobs has this place
-abbrev pub key_from : EventId → ℕ → List JobInstances → Option InstanceKey
-key_from id job [] = None
-key_from id job (its ∷ jobs) = key_or job (blocked_from id 0 its.instances) (key_from id (job + 1) jobs)
-
 -- this instance waits for the event of an id, or none does
 abbrev pub IsBlocked : EventId → List JobInstances → Option InstanceKey → Type 0
 IsBlocked id jobs None = (key : InstanceKey) → is_blocked id (instance_at key jobs) ≡ false
 IsBlocked id jobs (Some key) = is_blocked id (instance_at key jobs) ≡ true
 
--- no instance of any job waits for an event
-abbrev pub NobodyWaits : List JobInstances → Type 0
-NobodyWaits jobs = AllByRecursion (λ job. any_waits job.instances ≡ false) jobs
+-- the wait of this instance for the event of an id ends, if there is one
+abbrev pub unblocked_at : EventId → Option InstanceKey → List JobInstances → List JobInstances
+unblocked_at id None jobs = jobs
+unblocked_at id (Some key) jobs = changed_at key (unblocked id) jobs
+
+-- no instance of the jobs before this place waits for an event
+abbrev pub AreQuiet : (quiet : ℕ) → List JobInstances → Type 0
+AreQuiet quiet jobs = (job : ℕ) → job < quiet → any_waits (instances_at job jobs) ≡ false

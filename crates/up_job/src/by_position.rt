@@ -1,5 +1,5 @@
 //! Instances by their keys. Only `add_at` allocates.
-ghost use Rattle.std.specs.Prelude.{◌≡◌, ◌<◌, false, length, map, OnOk, OnErr, IfOk, IfErr, option_map, IsSome, Some, None};
+ghost use Rattle.std.specs.Prelude.{◌≡◌, ◌<◌, length, map, OnOk, OnErr, IfOk, IfErr, option_map, IsSome, Some, None};
 ghost use Rattle.std.specs.Option.{option_copied};
 ghost use Rattle.std.specs.Borrow.{sem};
 ghost use Rattle.up_job.specs.Alarms.{AllFrom};
@@ -8,7 +8,7 @@ ghost use Rattle.up_job.specs.InstanceLists.{max_instances, name_of, named, new_
 ghost use Rattle.up_job.specs.JobLists.{changed_at, changed_in, instance_at, instances_at, job_of, key_of, position_at, removed_at, removed_in, with_made};
 ghost use Rattle.up_job.specs.Lending.{stop_on_of, LendsStopOnAt};
 ghost use Rattle.up_job.specs.Lists.{nth, with_at, position_in};
-ghost use Rattle.up_job.specs.Unblocking.{IsBlocked, NobodyWaits, key_from, unblocked_in};
+ghost use Rattle.up_job.specs.Unblocking.{AreQuiet, IsBlocked, unblocked, unblocked_at};
 
 use crate::alarm::{alarm_after, earliest};
 use crate::change::Change;
@@ -16,7 +16,7 @@ use crate::fault::JobFault;
 use crate::instance::Instance;
 use crate::instance_key::InstanceKey;
 use crate::instances::{Instances, JobInstances};
-use crate::unblocking::may_wait;
+use crate::unblocking::quiet_after;
 use up_image::JobFile;
 use up_marks::Trigger;
 use up_model::EventId;
@@ -67,42 +67,45 @@ fn remove_at(jobs: &mut Vec<JobInstances>, key: InstanceKey) -> Option<Instance>
     }
 }
 
-fn unblock_in(job: &mut JobInstances, id: EventId)
-    ensures { job.new ≡ unblocked_in id job.old }
+fn unblock_in(job: &mut JobInstances, at: usize, id: EventId)
+    ensures { job.new ≡ changed_in at (unblocked id) job.old }
 {
-    job.instances.unblock(id);
+    job.instances.unblock_at(at, id);
 }
 
-fn unblock(jobs: &mut Vec<JobInstances>, id: EventId)
-    ensures { jobs.new.items ≡ map (unblocked_in id) jobs.old.items }
+#[tactic(auto, using(crate::proofs::Places::set_with_at, crate::proofs::Places::none_with_at))]
+fn unblock_at(jobs: &mut Vec<JobInstances>, key: InstanceKey, id: EventId)
+    ensures { jobs.new.items ≡ changed_at key (unblocked id) jobs.old.items }
 {
-    for i in 0..jobs.len() {
-        unblock_in(&mut jobs[i], id);
+    if key.job < jobs.len() {
+        unblock_in(&mut jobs[key.job], key.at, id);
     }
 }
 
-#[tactic(auto, using(crate::proofs::Blocked::key_left))]
-fn first_blocked(jobs: &[JobInstances], id: EventId) -> Option<InstanceKey>
-    ensures { result ≡ key_from id 0 jobs.now }
+// The index of the first job of which an instance may wait for an event. None of the jobs before `quiet` is looked at.
+fn quiet_from(jobs: &[JobInstances], quiet: usize) -> usize
+    requires { AreQuiet quiet jobs.now }
+    ensures { AreQuiet result jobs.now }
 {
-    for (job, its) in jobs.iter().enumerate() {
-        if let Some(at) = its.instances.first_blocked(id) {
+    for job in quiet..jobs.len() {
+        if jobs[job].instances.may_wait() {
+            return job;
+        }
+    }
+    jobs.len()
+}
+
+// The first instance that waits for this event, which is none of the jobs before `quiet`.
+fn first_blocked(jobs: &[JobInstances], quiet: usize, id: EventId) -> Option<InstanceKey>
+    requires { AreQuiet quiet jobs.now }
+    ensures { IsBlocked id jobs.now result }
+{
+    for job in quiet..jobs.len() {
+        if let Some(at) = jobs[job].instances.first_blocked(id) {
             return Some(InstanceKey { job, at });
         }
     }
     None
-}
-
-// Whether an instance of one of these jobs may wait for an event.
-fn any_may_wait(jobs: &[JobInstances]) -> bool
-    ensures { result ≡ false → NobodyWaits jobs.now }
-{
-    for job in jobs {
-        if job.instances.may_wait() {
-            return true;
-        }
-    }
-    false
 }
 
 fn add_in(
@@ -205,7 +208,7 @@ impl Instances {
         ensures { self.new ≡ changed_at key (changed its) self.old }
     {
         self.alarm = alarm_after(&its, self.alarm);
-        self.may_wait = may_wait(self.may_wait, &its);
+        self.quiet = quiet_after(self.quiet, &its, key.job);
         change_at(&mut self.jobs, key, its);
     }
 
@@ -259,18 +262,15 @@ impl Instances {
         job.instances.stop_on_mut(key.at)
     }
 
-    /// Ends each instance's wait for this event; returns one that waited, if any.
+    /// Ends the wait of the first instance that waits for this event, and returns it; does nothing if none does.
     pub fn unblock(&mut self, event: EventId) -> Option<InstanceKey>
-        ensures after { self.new ≡ map (unblocked_in event) self.old }
+        ensures after { self.new ≡ unblocked_at event result self.old }
         ensures blocked { IsBlocked event self.old result }
     {
-        if !self.may_wait {
-            return None;
-        }
-        match first_blocked(self.jobs.as_slice(), event) {
+        self.quiet = quiet_from(self.jobs.as_slice(), self.quiet);
+        match first_blocked(self.jobs.as_slice(), self.quiet, event) {
             Some(key) => {
-                unblock(&mut self.jobs, event);
-                self.may_wait = any_may_wait(self.jobs.as_slice());
+                unblock_at(&mut self.jobs, key, event);
                 Some(key)
             }
             None => None,

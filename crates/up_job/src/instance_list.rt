@@ -14,7 +14,7 @@ ghost use Rattle.up_job.specs.Waiting.{any_waits};
 use crate::change::{Change, apply};
 use crate::fault::JobFault;
 use crate::instance::{Instance, new_instance};
-use crate::unblocking::{any_waits, first_blocked, may_wait, unblock_all};
+use crate::unblocking::{any_waits, first_blocked, may_wait, unblock_at};
 use std::alloc::{AllocError, Global};
 use std::marker::Model;
 use up_image::JobFile;
@@ -278,12 +278,11 @@ impl InstanceList {
         first_blocked(self.instances.as_slice(), id)
     }
 
-    pub(crate) fn unblock(&mut self, id: EventId)
-        ensures { self.new ≡ map (unblocked id) self.old }
+    /// Ends the wait of the instance at an index for this event, if it waits for it.
+    pub(crate) fn unblock_at(&mut self, at: usize, id: EventId)
+        ensures { self.new ≡ with_at at (unblocked id) self.old }
     {
-        if self.may_wait {
-            unblock_all(&mut self.instances, id);
-            self.may_wait = any_waits(self.instances.as_slice());
-        }
+        unblock_at(&mut self.instances, at, id);
+        self.may_wait = any_waits(self.instances.as_slice());
     }
 }

@@ -29,17 +29,17 @@ pub struct Instances {
     pub(crate) jobs: Vec<JobInstances>,
     // The timer kills nobody before the clock reads this. It may be too early.
     pub(crate) alarm: u128,
-    // Whether an instance may wait for an event. If none does, none is searched.
-    pub(crate) may_wait: bool,
+    // No instance of the jobs before this index waits for an event, so none of theirs is searched. It may be too early.
+    pub(crate) quiet: usize,
 }
 
 impl Model for Instances {
-    ghost use Rattle.std.specs.Prelude.{◌≡◌, false, List};
+    ghost use Rattle.std.specs.Prelude.{List};
     ghost use Rattle.up_job.specs.declared.instances.JobInstances.{JobInstances};
     ghost use Rattle.up_job.specs.JobLists.{job_of};
     ghost use Rattle.up_job.specs.Alarms.{AllFrom};
     ghost use Rattle.up_job.specs.Named.{AreInOrder};
-    ghost use Rattle.up_job.specs.Unblocking.{NobodyWaits};
+    ghost use Rattle.up_job.specs.Unblocking.{AreQuiet};
     ghost use Rattle.std.specs.Coded.{codes};
     ghost use Rattle.up_conf.specs.contracts.job.JobDef as job;
 
@@ -50,7 +50,7 @@ impl Model for Instances {
     ghost view = { λ s. s.jobs.items };
 
     ghost invariant = { λ s. AreInOrder job_of s.jobs.items × AllFrom s.alarm s.jobs.items
-        × (s.may_wait ≡ false → NobodyWaits s.jobs.items) };
+        × AreQuiet s.quiet s.jobs.items };
 }
 
 // The index at which a job belongs.
@@ -196,7 +196,7 @@ impl Instances {
         Instances {
             jobs: Vec::new(alloc),
             alarm: u128::MAX,
-            may_wait: false,
+            quiet: 0,
         }
     }
 
@@ -209,7 +209,7 @@ impl Instances {
         Ok(Instances {
             jobs,
             alarm: u128::MAX,
-            may_wait: false,
+            quiet: 0,
         })
     }
 
@@ -249,7 +249,7 @@ impl Instances {
         ensures unchanged { OnErr result (self.new ≡ self.old) }
     {
         self.alarm = 0;
-        self.may_wait = true;
+        self.quiet = 0;
         match place(self.jobs.as_slice(), job) {
             Ok(_) => {
                 add_to(&mut self.jobs, job, instance, file, stop_on)?;
@@ -268,7 +268,7 @@ impl Instances {
         ensures { Changes job.now (with_change instance.now (changed its)) self.old self.new }
     {
         self.alarm = 0;
-        self.may_wait = true;
+        self.quiet = 0;
         change(&mut self.jobs, job, instance, its);
     }
 
@@ -278,7 +278,7 @@ impl Instances {
         ensures rest { Changes job.now (without instance.now) self.old self.new }
     {
         self.alarm = 0;
-        self.may_wait = true;
+        self.quiet = 0;
         take(&mut self.jobs, job, instance)
     }
 }

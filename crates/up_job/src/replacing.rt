@@ -50,7 +50,7 @@ impl Instances {
         ensures { OnOk result (self.new ≡ map (kept_job self.old) jobs.now) }
     {
         self.alarm = 0;
-        self.may_wait = true;
+        self.quiet = 0;
         let kept = taken(alloc, &mut self.jobs, jobs)?;
         self.jobs = kept;
         Ok(())

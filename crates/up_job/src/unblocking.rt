@@ -1,5 +1,6 @@
 //! An event that has finished blocks nobody.
-ghost use Rattle.std.specs.Prelude.{◌≡◌, ◌||◌, map};
+ghost use Rattle.std.specs.Prelude.{◌≡◌, ◌||◌, ◌&&◌, nat_lt, if◌then◌else◌};
+ghost use Rattle.up_job.specs.Lists.{with_at};
 ghost use Rattle.up_job.specs.Unblocking.{blocked_from, is_event, unblocked};
 ghost use Rattle.up_job.specs.Waiting.{any_waits, is_wait};
 
@@ -21,6 +22,17 @@ pub(crate) fn may_wait(before: bool, its: &Change) -> bool
     ensures { result ≡ (before || is_wait its.now) }
 {
     before || is_wait(its)
+}
+
+/// The index of a job before which no instance waits for an event, after a change of one of this job.
+pub(crate) fn quiet_after(quiet: usize, its: &Change, job: usize) -> usize
+    ensures { result ≡ (if is_wait its.now && nat_lt job quiet then job else quiet) }
+{
+    if is_wait(its) && job < quiet {
+        job
+    } else {
+        quiet
+    }
 }
 
 pub(crate) fn any_waits(instances: &[Instance]) -> bool
@@ -46,11 +58,12 @@ fn unblock(instance: &mut Instance, id: EventId)
     }
 }
 
-pub(crate) fn unblock_all(instances: &mut Vec<Instance>, id: EventId)
-    ensures { instances.new.items ≡ map (unblocked id) instances.old.items }
+#[tactic(auto, using(crate::proofs::Places::set_with_at, crate::proofs::Places::none_with_at))]
+pub(crate) fn unblock_at(instances: &mut Vec<Instance>, at: usize, id: EventId)
+    ensures { instances.new.items ≡ with_at at (unblocked id) instances.old.items }
 {
-    for i in 0..instances.len() {
-        unblock(&mut instances[i], id);
+    if at < instances.len() {
+        unblock(&mut instances[at], id);
     }
 }
 

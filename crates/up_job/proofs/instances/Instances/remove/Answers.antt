@@ -1,5 +1,6 @@
 use Rattle.up_job.proofs.AlarmLemmas.{all-zero}
+use Rattle.up_job.proofs.WaitLemmas.{quiet-none}
 use Rattle.up_job.proofs.instances.Instances.remove.Goals as goal
 
 pub invariant_of-self : goal.invariant_of-self
-invariant_of-self c = (c.take.ensures.order, all-zero _, λ calm. absurd cc)
+invariant_of-self c = (c.take.ensures.order, all-zero _, quiet-none _)
