@@ -17,6 +17,8 @@ mod model;
 #[cfg(test)]
 mod signals;
 #[cfg(test)]
+mod statuses;
+#[cfg(test)]
 mod tables;
 #[cfg(test)]
 mod text;
