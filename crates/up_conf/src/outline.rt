@@ -174,12 +174,12 @@ pub(crate) fn with_stanzas<'a>(
 }
 
 // Empty if there is no text.
-fn copy_text(alloc: Global, text: Option<&Text>) -> Result<Text, AllocError>
+fn copy_text(text: Option<&Text>) -> Result<Text, AllocError>
     ensures { IfOk result (λ copied. copied ≡ unwrap_or (option_copied text.entry) []) }
 {
     match text {
         Some(text) => text.copy(),
-        None => Ok(Text::new(String::new(alloc))),
+        None => Ok(Text::empty()),
     }
 }
 
@@ -218,7 +218,7 @@ impl<'a> Outline<'a> {
     ) -> Result<JobDef, AllocError>
         ensures { IfOk result (λ job. job ≡ record self.entry { name = name; env = env; export = export }) }
     {
-        let texts = both(copy_text(alloc, self.instance), copy_text(alloc, self.dir));
+        let texts = both(copy_text(self.instance), copy_text(self.dir));
         let starts = both(
             copy_run(alloc, self.pre_start),
             copy_run(alloc, self.post_start),

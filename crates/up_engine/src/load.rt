@@ -9,7 +9,7 @@ ghost use Rattle.up_model.specs.Loads.{in_force, is_load, loading, not_loaded, w
 ghost use Rattle.up_model.specs.declared.input.Input.{Input as InputValue};
 ghost use Rattle.up_model.specs.declared.loaded.Loaded.TheVariants as loaded_as;
 
-use crate::texts::{configuration_not_read, configuration_refused, no_text};
+use crate::texts::{configuration_not_read, configuration_refused};
 use std::alloc::{AllocError, Global};
 use up_book::Book;
 use up_cascade::Setup;
@@ -33,7 +33,7 @@ fn load_files<B: Book>(
     next.is_ordered();
     book.load(next.jobs())?;
     *setup = next;
-    let text = no_text(alloc);
+    let text = Text::empty();
     book.reply(Answer { ok: true, text })?;
     Ok(())
 }

@@ -23,7 +23,7 @@ use crate::due::Concern;
 use crate::status::{list, status};
 use crate::target::{Target, known_target, target_of};
 use crate::texts::{
-    already_running, already_stopped, no_text, not_running, not_supported, too_many_events,
+    already_running, already_stopped, not_running, not_supported, too_many_events,
     too_many_instances, unknown_instance, version,
 };
 use std::alloc::{AllocError, Global};
@@ -287,16 +287,11 @@ fn can_reload<B: Book>(book: &B, key: InstanceKey) -> bool
     book.state_of(key).is_running() && book.lives(key, Process::Main)
 }
 
-fn signal_and_reply<B: Book>(
-    alloc: Global,
-    book: &mut B,
-    key: InstanceKey,
-    signal: u8,
-) -> Result<(), AllocError>
+fn signal_and_reply<B: Book>(book: &mut B, key: InstanceKey, signal: u8) -> Result<(), AllocError>
     ensures { OnOk result ((config : Configuration) → Tells key (B.stands book.old Stepping) (B.stands book.new Stepping) config
         (λ i given. model.reloading given i signal)) }
 {
-    let nothing = no_text(alloc);
+    let nothing = Text::empty();
     book.signal(key, signal)?;
     reply_ok(book, nothing)?;
     Ok(())
@@ -327,7 +322,7 @@ fn reload_by<B: Book>(
         (λ i given. model.reload_at given (Some job) who.now (Some i))) }
 {
     if can_reload(book, key) {
-        signal_and_reply(alloc, book, key, signal)?;
+        signal_and_reply(book, key, signal)?;
     } else {
         let text = not_running(alloc, who)?;
         refuse(book, text)?;

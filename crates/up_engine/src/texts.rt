@@ -93,12 +93,6 @@ pub(crate) fn configuration_not_read(alloc: Global) -> Result<Text, AllocError>
     Text::from_str(alloc, "Configuration not read")
 }
 
-pub(crate) fn no_text(alloc: Global) -> Text
-    ensures { result ≡ [] }
-{
-    Text::new(String::new(alloc))
-}
-
 pub(crate) fn version(alloc: Global) -> Result<Text, AllocError>
     ensures { IfOk result (λ text. text ≡ model.version_text) }
 {

@@ -172,19 +172,51 @@ fn environments(rt: HostRuntime) -> Result<(), Fail> {
     check_environments(rt.alloc(), ENVIRONMENTS)
 }
 
-const TEXT: &'static str = "a\u{e9}";
-
-fn is_text(text: &Text) -> bool {
-    text.as_str() == TEXT && text.is(TEXT) && !text.is("a")
+// Whether an environment still gives what it gave after a key of its copy is set, and the copy gives the new value.
+fn is_apart(env: &Env, case: &Case) -> Result<bool, TextFault> {
+    let mut copied = env.copy()?;
+    let done = copied.set("A", "new");
+    let is_set = copied.get("A") == Some("new");
+    drop(copied);
+    done?;
+    Ok(is_set && has_pairs(env, case.given))
 }
 
-// Whether a text is copied, and then given back as a string.
-fn is_given_back(text: Text) -> Result<bool, AllocError> {
+#[test]
+fn copies_are_apart(rt: HostRuntime) -> Result<(), Fail> {
+    for case in ENVIRONMENTS {
+        let env = env_of(rt.alloc(), case.given)?;
+        let apart = is_apart(&env, case);
+        drop(env);
+        assert!(rt; apart?);
+    }
+    Ok(())
+}
+
+// A short text, which lies in the value itself, and one that doesn't.
+const TEXTS: &'static [&'static str] = &["", "a\u{e9}", "a text of more than twenty-four bytes"];
+
+fn is_text(text: &Text, wanted: &str) -> bool {
+    text.as_str() == wanted && text.is(wanted) && !text.is("a")
+}
+
+// Whether a text is this one, and its copies are.
+fn copies_are(text: &Text, wanted: &str) -> Result<bool, AllocError> {
     let copied = text.copy()?;
     let cloned = text.clone()?;
-    let are_texts = is_text(&text) && is_text(&copied) && is_text(&cloned);
-    let string = text.into_string();
-    Ok(are_texts && string.as_str() == TEXT && is_text(&Text::new(string)))
+    Ok(is_text(text, wanted) && is_text(&copied, wanted) && is_text(&cloned, wanted))
+}
+
+#[test]
+fn texts(rt: HostRuntime) -> Result<(), Fail> {
+    for wanted in TEXTS {
+        let text = Text::from_str(rt.alloc(), wanted)?;
+        assert!(rt; copies_are(&text, wanted)?);
+        let text = Text::new(String::from_str(rt.alloc(), wanted)?);
+        assert!(rt; copies_are(&text, wanted)?);
+    }
+    assert!(rt; copies_are(&Text::empty(), "")?);
+    Ok(())
 }
 
 const ITEMS: &'static [u8] = &[3, 1];
@@ -194,8 +226,7 @@ fn are_items(items: Items<u8>) -> bool {
 }
 
 #[test]
-fn texts_and_items(rt: HostRuntime) -> Result<(), Fail> {
-    assert!(rt; is_given_back(Text::from_str(rt.alloc(), TEXT)?)?);
+fn items(rt: HostRuntime) -> Result<(), Fail> {
     assert!(rt; are_items(Items::new(vec![in rt.alloc(); 3, 1]?)));
     Ok(())
 }

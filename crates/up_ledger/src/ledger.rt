@@ -17,7 +17,7 @@ ghost use Rattle.up_model.specs.Values.{Bindings, Bytes};
 
 use crate::holders::holders_by;
 use crate::past::Past;
-use crate::replies::{no_text, reply, reply_asked, reply_finished, reply_held};
+use crate::replies::{reply, reply_asked, reply_finished, reply_held};
 use crate::step::{ActedOn, Step, push_emitted, put};
 use std::alloc::{AllocError, Global};
 use up_book::{Book, Holders, next_other, order_of, signal_of};
@@ -132,7 +132,7 @@ impl Ledger {
                 let text = self.told_of(on)?;
                 Ok(text)
             }
-            None => Ok(no_text(self.alloc)),
+            None => Ok(Text::empty()),
         }
     }
 

@@ -16,12 +16,6 @@ use up_job::{Holder, Instance};
 use up_model::{Answer, Command, Output};
 use up_text::Text;
 
-pub(crate) fn no_text(alloc: Global) -> Text
-    ensures { result ≡ [] }
-{
-    Text::new(String::new(alloc))
-}
-
 // The text for a client that waited in vain.
 fn failed_text(command: Command) -> &'static str
     ensures { result.now ≡ model.failed_text command }
@@ -59,7 +53,7 @@ fn answer_to(
 fn event_answer(alloc: Global, spoilt: bool) -> Result<Answer, AllocError>
     ensures { IfOk result (λ answer. answer ≡ model.answer_to command.Emit spoilt []) }
 {
-    let answer = answer_to(alloc, Command::Emit, spoilt, &no_text(alloc))?;
+    let answer = answer_to(alloc, Command::Emit, spoilt, &Text::empty())?;
     Ok(answer)
 }
 

@@ -133,8 +133,8 @@ inserted_sets eq (entry ∷ entries) key value same =
     by_case false rest = ap (λ others. (string_bytes entry.0, entry.1) ∷ others) rest
 
 -- bindings are bindings after a key is set, and where memory was refused
-pub set_or_kept : {A E : Type 0} (key value : List ℕ) (old new : List (String A × List ℕ)) (result : Result (Unit {0}) E)
-    → are_bindings (bindings_of old) ≡ true → is_key key ≡ true → is_value value ≡ true
-    → OnOk result (bindings_of new ≡ set_in key value (bindings_of old)) → OnErr result (new ≡ old) → are_bindings (bindings_of new) ≡ true
-set_or_kept key value old new (Ok done) are good fit set kept = rw set (are_bindings-set_in key value (bindings_of old) are good fit)
+pub set_or_kept : {E : Type 0} (key value : List ℕ) (old new : List (List ℕ × List ℕ)) (result : Result (Unit {0}) E)
+    → are_bindings old ≡ true → is_key key ≡ true → is_value value ≡ true
+    → OnOk result (new ≡ set_in key value old) → OnErr result (new ≡ old) → are_bindings new ≡ true
+set_or_kept key value old new (Ok done) are good fit set kept = rw set (are_bindings-set_in key value old are good fit)
 set_or_kept key value old new (Err refused) are good fit set kept = rw kept are

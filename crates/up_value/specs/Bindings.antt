@@ -1,5 +1,7 @@
 use Rattle.std.specs.Prelude.{Bool, true, false, ◌&&◌, not, List, [], ◌∷◌, Option, None, Some, map, if◌then◌else◌, String, string_bytes}
 use Rattle.std.specs.Str.{bytes_eq}
+use Rattle.std.specs.declared.rc.Rc.{Rc}
+use Rattle.indexmap.specs.IndexMap.{IndexMap}
 use Rattle.up_value.specs.Names.{is_key, is_value}
 use Rattle.up_value.specs.Values.{Bytes, Bindings}
 
@@ -38,3 +40,8 @@ binding_of entry = (string_bytes entry.0, entry.1)
 
 abbrev pub bindings_of : {A : Type 0} → List (String A × Bytes) → Bindings
 bindings_of entries = map binding_of entries
+
+-- the bindings of a map that several environments may share; without one there are none
+abbrev pub shared_bindings : {A S Z : Type 0} → Option (Rc (IndexMap (String A) Bytes S) Z) → Bindings
+shared_bindings None = []
+shared_bindings (Some pairs) = bindings_of pairs.value.entries

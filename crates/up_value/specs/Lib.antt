@@ -1,5 +1,7 @@
 -- The values that definitions speak of.
 pub mod Values
+-- The bytes of a text or a name.
+pub mod Chars
 -- Names, keys and values (init(5)).
 pub mod Names
 -- Environments: lists of distinct keys with values.

@@ -4,7 +4,7 @@ ghost use Rattle.std.specs.Prelude.{◌≡◌, length};
 use std::marker::Model;
 
 /// A list seen by contracts as its items in order. It is made from a `Vec` and turns back into it, without taking memory.
-#[derive(Debug, Drop)]
+#[derive(Debug)]
 pub struct Items<T> {
     items: Vec<T>,
 }
@@ -18,6 +18,14 @@ impl<T> Model for Items<T> {
     ghost coded = { coded_list T.code };
 
     ghost view = { λ a. a.items.items };
+}
+
+// Written out, so that a caller sees one call where it drops a list.
+impl<T: Drop> Drop for Items<T> {
+    fn drop(self) {
+        let Items { items: vec } = self;
+        drop(vec);
+    }
 }
 
 impl<T> Items<T> {

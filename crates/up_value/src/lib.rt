@@ -4,6 +4,7 @@
 //! without their addresses in memory.
 #![tactic(auto)]
 
+mod chars;
 pub mod env;
 pub mod fault;
 pub mod items;

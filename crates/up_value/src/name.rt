@@ -4,26 +4,27 @@ ghost use Rattle.std.specs.List.{list_all};
 ghost use Rattle.std.specs.Str.{bytes_eq};
 ghost use Rattle.up_value.specs.Names.{is_name, is_name_byte};
 
+use crate::chars::Chars;
 use crate::fault::TextFault;
 use std::alloc::{AllocError, Global};
 use std::marker::Model;
 
 /// The name of a job or an event, seen by contracts as the list of its bytes.
-#[derive(Debug, Drop)]
+#[derive(Debug)]
 pub struct Name {
-    text: String,
+    chars: Chars,
 }
 
 impl Model for Name {
     ghost use Rattle.std.specs.Prelude.{◌≡◌, List, ℕ, true};
-    ghost use Rattle.std.specs.String.{string_bytes};
+    ghost use Rattle.up_value.specs.Chars.{chars_bytes};
     ghost use Rattle.up_value.specs.Names.{is_name};
 
     ghost Value = { List ℕ };
 
-    ghost view = { λ n. string_bytes n.text };
+    ghost view = { λ n. chars_bytes n.chars };
 
-    ghost invariant = { λ n. is_name (string_bytes n.text) ≡ true };
+    ghost invariant = { λ n. is_name (chars_bytes n.chars) ≡ true };
 }
 
 #[tactic(auto, unfolding(crate::specs::Names::is_name_byte, crate::specs::Names::is_special))]
@@ -50,6 +51,14 @@ pub fn is_name(text: &str) -> bool
     !text.is_empty() && are_name_bytes(text.as_bytes())
 }
 
+// Written out, so that a caller sees one call where it drops a name, wherever the characters are.
+impl Drop for Name {
+    fn drop(self) {
+        let Name { chars } = self;
+        drop(chars);
+    }
+}
+
 impl Name {
     /// Fails with `BadName` if the bytes aren't a name ([`is_name`]).
     pub fn new(alloc: Global, text: &str) -> Result<Self, TextFault>
@@ -60,28 +69,28 @@ impl Name {
         if !is_name(text) {
             return Err(TextFault::BadName);
         }
-        let text = String::from_str(alloc, text)?;
-        Ok(Name { text })
+        let chars = Chars::from_str(alloc, text)?;
+        Ok(Name { chars })
     }
 
     pub fn as_str(&self) -> &str
         ensures text { result.now ≡ self.now }
         ensures name { IsTrue (is_name self.now) }
     {
-        self.text.as_str()
+        self.chars.as_str()
     }
 
     pub fn is(&self, other: &Name) -> bool
         ensures test { result ≡ bytes_eq self.now other.now }
         ensures equal { IsTrue result ↔ (self.now ≡ other.now) }
     {
-        self.text.as_str() == other.text.as_str()
+        self.as_str() == other.as_str()
     }
 
     pub fn copy(&self) -> Result<Self, AllocError>
         ensures { IfOk result (λ name. name ≡ self.now) }
     {
-        let text = self.text.clone()?;
-        Ok(Name { text })
+        let chars = self.chars.copy()?;
+        Ok(Name { chars })
     }
 }

@@ -1,25 +1,26 @@
 //! A text that contracts see as the list of its bytes.
-ghost use Rattle.std.specs.Prelude.{◌≡◌, ◌↔◌, IfOk, IfSome, IsTrue, MatchOption, false, length, string_bytes, true};
+ghost use Rattle.std.specs.Prelude.{◌≡◌, [], ◌↔◌, IfOk, IfSome, IsTrue, MatchOption, false, length, string_bytes, true};
 ghost use Rattle.std.specs.Str.{bytes_eq, is_utf8};
 
+use crate::chars::Chars;
 use crate::items::Items;
 use std::alloc::{AllocError, Global};
 use std::marker::Model;
 use std::str;
 
 /// UTF-8 text, seen by contracts as the list of its bytes.
-#[derive(Debug, Drop)]
+#[derive(Debug)]
 pub struct Text {
-    text: String,
+    chars: Chars,
 }
 
 impl Model for Text {
     ghost use Rattle.std.specs.Prelude.{List, ℕ};
-    ghost use Rattle.std.specs.String.{string_bytes};
+    ghost use Rattle.up_value.specs.Chars.{chars_bytes};
 
     ghost Value = { List ℕ };
 
-    ghost view = { λ t. string_bytes t.text };
+    ghost view = { λ t. chars_bytes t.chars };
 }
 
 impl Clone for Text {
@@ -32,47 +33,58 @@ impl Clone for Text {
     }
 }
 
+// Written out, so that a caller sees one call where it drops a text, wherever the characters are.
+impl Drop for Text {
+    fn drop(self) {
+        let Text { chars } = self;
+        drop(chars);
+    }
+}
+
 impl Text {
+    /// The text without characters. Takes no memory.
+    pub fn empty() -> Self
+        ensures { result ≡ [] }
+    {
+        Text {
+            chars: Chars::empty(),
+        }
+    }
+
     /// Takes over a string without copying.
     pub fn new(text: String) -> Self
         ensures { result ≡ string_bytes text }
     {
-        Text { text }
+        Text {
+            chars: Chars::Long(text),
+        }
     }
 
     pub fn from_str(alloc: Global, text: &str) -> Result<Self, AllocError>
         ensures { IfOk result (λ t. t ≡ text.now) }
     {
-        let text = String::from_str(alloc, text)?;
-        Ok(Text { text })
+        let chars = Chars::from_str(alloc, text)?;
+        Ok(Text { chars })
     }
 
     pub fn as_str(&self) -> &str
         ensures { result.now ≡ self.now }
     {
-        self.text.as_str()
-    }
-
-    /// Returns the string without copying.
-    pub fn into_string(self) -> String
-        ensures { string_bytes result ≡ self }
-    {
-        let Text { text } = self;
-        text
+        self.chars.as_str()
     }
 
     pub fn is(&self, other: &str) -> bool
         ensures test { result ≡ bytes_eq self.now other.now }
         ensures equal { IsTrue result ↔ (self.now ≡ other.now) }
     {
-        self.text.as_str() == other
+        self.chars.as_str() == other
     }
 
     pub fn copy(&self) -> Result<Self, AllocError>
         ensures { IfOk result (λ t. t ≡ self.now) }
     {
-        let text = self.text.clone()?;
-        Ok(Text { text })
+        let chars = self.chars.copy()?;
+        Ok(Text { chars })
     }
 }
 

@@ -44,26 +44,38 @@ fn split(alloc: Global, bytes: &[u8]) -> Result<(Vec<Answer>, Vec<u8>), WireFaul
     Ok((answers, rest))
 }
 
-// The same after a first answer, which a failure hands back.
+// The same after a first answer.
 fn split_after(
     alloc: Global,
     first: Answer,
     bytes: &[u8],
-) -> Result<(Vec<Answer>, Vec<u8>), (WireFault, Answer)>
+) -> Result<(Vec<Answer>, Vec<u8>), WireFault>
     ensures frames { IfOk result (λ found. (found.0.items ≡ first ∷ drop 1 found.0.items)
         × AnswerFrames bytes.now (drop 1 found.0.items) found.1.items) }
-    ensures fault { IfErr result (λ refused. AnswersStop refused.0 bytes.now × (refused.1 ≡ first)) }
+    ensures fault { IfErr result (λ fault. AnswersStop fault bytes.now) }
 {
-    match split(alloc, bytes) {
-        Ok(found) => {
-            let (mut answers, rest) = found;
-            match answers.insert(0, first) {
-                Ok(()) => Ok((answers, rest)),
-                Err(failed) => Err((WireFault::Memory, failed.value)),
-            }
-        }
-        Err(fault) => Err((fault, first)),
-    }
+    let (mut answers, rest) = split(alloc, bytes)?;
+    answers.insert(0, first)?;
+    Ok((answers, rest))
+}
+
+// The answer that ends with a payload after the text of its full frames, those of the bytes after it, and a copy of what is left.
+fn split_from(
+    alloc: Global,
+    text: &[u8],
+    payload: &[u8],
+    after: &[u8],
+) -> Result<(Vec<Answer>, Vec<u8>), WireFault>
+    ensures frames { (total : Bytes) → Opens total text.now (frame payload.now ++ after.now)
+        → length payload.now ≤ max_payload → IfOk result (λ found. AnswerFrames total found.0.items found.1.items) }
+    ensures fault { (total : Bytes) → Opens total text.now (frame payload.now ++ after.now)
+        → length payload.now ≤ max_payload → is_chunk payload.now ≡ false
+        → IfErr result (λ fault. AnswersStop fault total) }
+{
+    // A copy, so that the text stays if memory runs out. It is empty for all but long answers.
+    let mut first = Vec::from_slice(alloc, text)?;
+    let first = end(&mut first, payload)?;
+    split_after(alloc, first, after)
 }
 
 // The answers of the text of full frames and of the bytes after them; what isn't a complete answer stays.
@@ -88,21 +100,12 @@ fn take_answers(
             *rest = Vec::from_slice(alloc, left)?;
             Ok(Vec::new(alloc))
         }
-        Ok(Ahead::Last(payload, after)) => match end(text, payload) {
-            Ok(first) => match split_after(alloc, first, after) {
-                Ok(found) => {
-                    let (answers, left) = found;
-                    *rest = left;
-                    Ok(answers)
-                }
-                Err(refused) => {
-                    let (fault, first) = refused;
-                    *text = first.text.into_string().into_bytes();
-                    Err(fault)
-                }
-            },
-            Err(fault) => Err(fault),
-        },
+        Ok(Ahead::Last(payload, after)) => {
+            let (answers, left) = split_from(alloc, text, payload, after)?;
+            text.clear();
+            *rest = left;
+            Ok(answers)
+        }
         Err(fault) => Err(fault),
     }
 }

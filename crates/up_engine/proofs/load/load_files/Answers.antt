@@ -11,5 +11,5 @@ returns-clause-book g c c' given s =
     let same = c.in_ok-next.ensures Stepping d s in
     let stood = c.in_ok-load.ensures config d c.args.table s refl (c.jobs.ensures ∙ ap (λ (conf : Configuration). conf.jobs) same) in
     let stands = subst (λ conf. g.B.Book.stands c.load-2.new.self Stepping conf (Loaded c.args.table ∷ d)) (sym same) stood in
-    subst (λ text. g.B.Book.stands c.reply.new.self Stepping c.in_ok-next.next (Replied (length c') (record { ok = true; text = text }) ∷ Loaded c.args.table ∷ d)) c.no_text-text.ensures
+    subst (λ text. g.B.Book.stands c.reply.new.self Stepping c.in_ok-next.next (Replied (length c') (record { ok = true; text = text }) ∷ Loaded c.args.table ∷ d)) c.empty-text.ensures
     (c.in_ok-reply.ensures c.in_ok-next.next (Loaded c.args.table ∷ d) stands)
