@@ -1,5 +1,5 @@
 -- At most one instance waits for an event.
-use Rattle.std.proofs.Common.{◌≡◌, ℕ, ◌<◌, ◌==◌, ◌&&◌, Bool, true, false, [], ◌∷◌, length, Option, None, Some, if◌then◌else◌, sym, ◌∙◌, arith, eqb-true}
+use Rattle.std.proofs.Common.{◌≡◌, ℕ, ◌<◌, ◌==◌, ◌&&◌, Bool, true, false, [], ◌∷◌, length, Option, None, Some, if◌then◌else◌, refl, sym, ◌∙◌, arith, eqb-true}
 use Rattle.std.proofs.lemmas.Bool.{and_parts}
 use Rattle.up_model.specs.Chronicle.{Chronicle, Queued, Finished, Entering}
 use Rattle.up_model.specs.Readings.{is_blocking, without, blocker}
