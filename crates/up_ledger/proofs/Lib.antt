@@ -48,3 +48,4 @@ pub mod Acting
 pub mod Blocking
 pub mod Overdue
 pub mod NewTables
+pub mod Alone

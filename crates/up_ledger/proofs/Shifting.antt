@@ -40,7 +40,7 @@ nth-apart zero (other ∷ jobs) job first there all =
 nth-apart (suc n) (other ∷ jobs) job first there all = nth-apart n jobs job first there all.1
 
 -- jobs of two places have two names
-distinct-at : (m n : ℕ) (jobs : List JobDef) (a b : JobDef) → nth m jobs ≡ Some a → nth n jobs ≡ Some b → (m ≡ n → ⊥) → AreDistinct jobs → bytes_eq a.name b.name ≡ false
+pub distinct-at : (m n : ℕ) (jobs : List JobDef) (a b : JobDef) → nth m jobs ≡ Some a → nth n jobs ≡ Some b → (m ≡ n → ⊥) → AreDistinct jobs → bytes_eq a.name b.name ≡ false
 distinct-at m n [] a b here there apart distinct = absurd cc
 distinct-at zero zero (job ∷ jobs) a b here there apart distinct = absurd (apart refl)
 distinct-at zero (suc n) (job ∷ jobs) a b here there apart distinct =
