@@ -110,12 +110,15 @@ AnswersStop BadFrame bytes = AnswersBreak Malformed bytes
 AnswersStop BadWord bytes = ⊥
 AnswersStop Memory bytes = Unit {0}
 
+-- bytes that begin with the full frames of a text, and then a frame that isn't full, with this payload
+abbrev pub EndsWith : Bytes → (text payload after : Bytes) → Type 0
+EndsWith bytes text payload after =
+    Opens bytes text (frame payload ++ after) × (length payload ≤ max_payload) × (is_chunk payload ≡ false)
+
 -- what comes after the full frames of a text: no whole frame, or one that isn't full
 abbrev pub LiesAhead : Bytes → Bytes → Result Ahead WireFault → Type 0
 LiesAhead bytes text (Ok (Open rest)) = Opens bytes text rest.now × (is_partial rest.now ≡ true)
-LiesAhead bytes text (Ok (Last payload after)) =
-    Opens bytes text (frame payload.now ++ after.now) × (length payload.now ≤ max_payload)
-    × (is_chunk payload.now ≡ false)
+LiesAhead bytes text (Ok (Last payload after)) = EndsWith bytes text payload.now after.now
 LiesAhead bytes text (Err fault) = AnswerBegins fault bytes
 
 -- if no frame was taken, the bytes are what is left

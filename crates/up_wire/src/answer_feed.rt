@@ -3,7 +3,7 @@ ghost use Rattle.std.specs.Prelude.{◌≡◌, ◌++◌, ◌∷◌, None, Some, 
 ghost use Rattle.up_wire.specs.declared.fault.WireFault.TheVariants.{Memory};
 ghost use Rattle.up_wire.specs.Fault.{wire_fault};
 ghost use Rattle.up_model.specs.Values.{Bytes};
-ghost use Rattle.up_wire.specs.Answers.{AnswerFrames, AnswersStop, AreFull, Opens, pending};
+ghost use Rattle.up_wire.specs.Answers.{AnswerFrames, AnswersStop, AreFull, EndsWith, Opens, pending};
 ghost use Rattle.up_wire.specs.Feeding.{refused};
 
 use crate::answers::{Ahead, answers_in, end, join_full};
@@ -66,16 +66,20 @@ fn split_from(
     payload: &[u8],
     after: &[u8],
 ) -> Result<(Vec<Answer>, Vec<u8>), WireFault>
-    ensures frames { (total : Bytes) → Opens total text.now (frame payload.now ++ after.now)
-        → length payload.now ≤ max_payload → IfOk result (λ found. AnswerFrames total found.0.items found.1.items) }
-    ensures fault { (total : Bytes) → Opens total text.now (frame payload.now ++ after.now)
-        → length payload.now ≤ max_payload → is_chunk payload.now ≡ false
+    ensures frames { (total : Bytes) → EndsWith total text.now payload.now after.now
+        → IfOk result (λ found. AnswerFrames total found.0.items found.1.items) }
+    ensures fault { (total : Bytes) → EndsWith total text.now payload.now after.now
         → IfErr result (λ fault. AnswersStop fault total) }
 {
     // A copy, so that the text stays if memory runs out. It is empty for all but long answers.
-    let mut first = Vec::from_slice(alloc, text)?;
-    let first = end(&mut first, payload)?;
-    split_after(alloc, first, after)
+    let mut joined = Vec::from_slice(alloc, text)?;
+    match end(&mut joined, payload) {
+        Ok(first) => match split_after(alloc, first, after) {
+            Ok(found) => Ok(found),
+            Err(fault) => Err(fault),
+        },
+        Err(fault) => Err(fault),
+    }
 }
 
 // The answers of the text of full frames and of the bytes after them; what isn't a complete answer stays.

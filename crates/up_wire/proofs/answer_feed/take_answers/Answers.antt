@@ -17,25 +17,11 @@ returns-in_ok-rest-in-Ok-Open-clause-taken c total h =
     let ahead = rw c.in-Ok-Open.field-0-is at (c.in-Ok-Open.ensures.ahead total opened) in
     rw c.new-in-Ok-Open.ensures.items (open_answers total c.join_full.new.text.items c.in-Ok-Open.left.now c.in_ok-rest-in-Ok-Open.field-0.items ahead.0 ahead.1 c.in_ok-rest-in-Ok-Open.ensures.items)
 
-pub returns-in-Ok-split_after-clause-taken : goal.returns-in-Ok-split_after-clause-taken
-returns-in-Ok-split_after-clause-taken c total h =
-    let opened : Opens total c.args.text.now.items c.deref.result.now = rw c.deref.ensures.value h in
-    let ahead = rw c.in-Ok-Last.field-0-is at (c.in-Ok-Last.ensures.ahead total opened) in
-    let found = c.in-Ok-split_after.ensures.frames in
-    let all = first_answers total c.join_full.new.text.items c.in-Ok-Last.payload.now c.in-Ok-Last.after.now c.in-Ok-split_after.found.1.items c.in-Ok.first (drop 1 c.in-Ok-split_after.found.0.items) ahead.0 ahead.1 c.in-Ok.ensures.answer found.1 in
-    (rw c.in-Ok.ensures.taken refl, rw (found.0, pending_nothing c.end.new.text.items c.in-Ok-split_after.found.1.items c.in-Ok.ensures.taken) all)
+pub returns-in-Ok-Last-clause-taken : goal.returns-in-Ok-Last-clause-taken
+returns-in-Ok-Last-clause-taken c total h = ?
 
-pub returns-in-Err-split_after-clause-refused : goal.returns-in-Err-split_after-clause-refused
-returns-in-Err-split_after-clause-refused c total h =
-    let opened : Opens total c.args.text.now.items c.deref.result.now = rw c.deref.ensures.value h in
-    let ahead = rw c.in-Ok-Last.field-0-is at (c.in-Ok-Last.ensures.ahead total opened) in
-    first_stops c.in-Err-split_after.refused.0 total c.join_full.new.text.items c.in-Ok-Last.payload.now c.in-Ok-Last.after.now c.in-Ok.first ahead.0 ahead.1 c.in-Ok.ensures.answer c.in-Err-split_after.ensures.fault.0
-
-pub returns-in-Err-end-clause-refused : goal.returns-in-Err-end-clause-refused
-returns-in-Err-end-clause-refused c total h =
-    let opened : Opens total c.args.text.now.items c.deref.result.now = rw c.deref.ensures.value h in
-    let ahead = rw c.in-Ok-Last.field-0-is at (c.in-Ok-Last.ensures.ahead total opened) in
-    begins_stops c.in-Err-end.fault total (end_begins c.in-Err-end.fault total c.join_full.new.text.items c.in-Ok-Last.payload.now c.in-Ok-Last.after.now ahead.0 ahead.1 ahead.2 c.in-Err-end.ensures.answer)
+pub returns-in_err-in-Ok-Last-clause-refused : goal.returns-in_err-in-Ok-Last-clause-refused
+returns-in_err-in-Ok-Last-clause-refused c total h = ?
 
 pub returns-in-Err-clause-refused : goal.returns-in-Err-clause-refused
 returns-in-Err-clause-refused c total h =
