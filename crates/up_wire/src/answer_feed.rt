@@ -104,12 +104,15 @@ fn take_answers(
             *rest = Vec::from_slice(alloc, left)?;
             Ok(Vec::new(alloc))
         }
-        Ok(Ahead::Last(payload, after)) => {
-            let (answers, left) = split_from(alloc, text, payload, after)?;
-            text.clear();
-            *rest = left;
-            Ok(answers)
-        }
+        Ok(Ahead::Last(payload, after)) => match split_from(alloc, text, payload, after) {
+            Ok(found) => {
+                let (answers, left) = found;
+                text.clear();
+                *rest = left;
+                Ok(answers)
+            }
+            Err(fault) => Err(fault),
+        },
         Err(fault) => Err(fault),
     }
 }

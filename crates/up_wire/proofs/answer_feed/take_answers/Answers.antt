@@ -1,6 +1,6 @@
-use Rattle.std.proofs.Common.{◌∙◌, sym, ap, refl, drop, length, arith}
-use Rattle.up_wire.specs.Answers.{Opens}
-use Rattle.up_wire.proofs.Pending.{open_answers, first_answers, first_stops, begins_stops, end_begins, pending_nothing}
+use Rattle.std.proofs.Common.{◌∙◌, sym, ap, refl, length, arith}
+use Rattle.up_wire.specs.Answers.{EndsWith, Opens}
+use Rattle.up_wire.proofs.Pending.{open_answers, begins_stops, pending_nothing}
 use Rattle.up_wire.proofs.answer_feed.take_answers.Goals as goal
 
 pub returns-then-left-len-clause-taken : goal.returns-then-left-len-clause-taken
@@ -17,11 +17,19 @@ returns-in_ok-rest-in-Ok-Open-clause-taken c total h =
     let ahead = rw c.in-Ok-Open.field-0-is at (c.in-Ok-Open.ensures.ahead total opened) in
     rw c.new-in-Ok-Open.ensures.items (open_answers total c.join_full.new.text.items c.in-Ok-Open.left.now c.in_ok-rest-in-Ok-Open.field-0.items ahead.0 ahead.1 c.in_ok-rest-in-Ok-Open.ensures.items)
 
-pub returns-in-Ok-Last-clause-taken : goal.returns-in-Ok-Last-clause-taken
-returns-in-Ok-Last-clause-taken c total h = ?
+pub returns-in-Ok-clause-taken : goal.returns-in-Ok-clause-taken
+returns-in-Ok-clause-taken c total h =
+    let opened : Opens total c.args.text.now.items c.deref.result.now = rw c.deref.ensures.value h in
+    let ahead = rw c.in-Ok-Last.field-0-is at (c.in-Ok-Last.ensures.ahead total opened) in
+    let ends : EndsWith total c.deref-in-Ok-Last.result.now c.in-Ok-Last.payload.now c.in-Ok-Last.after.now = rw c.deref-in-Ok-Last.ensures.value ahead in
+    (rw c.clear.ensures.items refl, rw (pending_nothing c.clear.new.self.items c.in-Ok.found.1.items c.clear.ensures.items) (c.in-Ok.ensures.frames total ends))
 
-pub returns-in_err-in-Ok-Last-clause-refused : goal.returns-in_err-in-Ok-Last-clause-refused
-returns-in_err-in-Ok-Last-clause-refused c total h = ?
+pub returns-in-Err-split_from-clause-refused : goal.returns-in-Err-split_from-clause-refused
+returns-in-Err-split_from-clause-refused c total h =
+    let opened : Opens total c.args.text.now.items c.deref.result.now = rw c.deref.ensures.value h in
+    let ahead = rw c.in-Ok-Last.field-0-is at (c.in-Ok-Last.ensures.ahead total opened) in
+    let ends : EndsWith total c.deref-in-Ok-Last.result.now c.in-Ok-Last.payload.now c.in-Ok-Last.after.now = rw c.deref-in-Ok-Last.ensures.value ahead in
+    c.in-Err-split_from.ensures.fault total ends
 
 pub returns-in-Err-clause-refused : goal.returns-in-Err-clause-refused
 returns-in-Err-clause-refused c total h =
