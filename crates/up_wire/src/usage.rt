@@ -72,7 +72,7 @@ fn no_wait<'a>(alloc: Global) -> Arg<'a>
 }
 
 // A command without arguments.
-fn alone<'a>(alloc: Global, its: Asked) -> Command<'a>
+fn without_arguments<'a>(alloc: Global, its: Asked) -> Command<'a>
     ensures { IsUsage (new_app (command_name its)) result }
 {
     let name: &'a str = its.name();
@@ -81,10 +81,10 @@ fn alone<'a>(alloc: Global, its: Asked) -> Command<'a>
 }
 
 // A command about a job or an event, with variables.
-fn about<'a>(alloc: Global, its: Asked) -> Result<Command<'a>, AllocError>
+fn subject_command<'a>(alloc: Global, its: Asked) -> Result<Command<'a>, AllocError>
     ensures { IfOk result (IsUsage (about_app (command_name its))) }
 {
-    alone(alloc, its)
+    without_arguments(alloc, its)
         .arg(subject(alloc, its))?
         .arg(variables(alloc))
 }
@@ -93,18 +93,18 @@ fn about<'a>(alloc: Global, its: Asked) -> Result<Command<'a>, AllocError>
 fn waiting<'a>(alloc: Global, its: Asked) -> Result<Command<'a>, AllocError>
     ensures { IfOk result (IsUsage (waiting_app (command_name its))) }
 {
-    about(alloc, its)?.arg(no_wait(alloc))
+    subject_command(alloc, its)?.arg(no_wait(alloc))
 }
 
 fn command_of<'a>(alloc: Global, its: Asked) -> Result<Command<'a>, AllocError>
     ensures { IfOk result (IsUsage (command_app its)) }
 {
     if its.is_alone() {
-        Ok(alone(alloc, its))
+        Ok(without_arguments(alloc, its))
     } else if its.may_wait() {
         waiting(alloc, its)
     } else {
-        about(alloc, its)
+        subject_command(alloc, its)
     }
 }
 
