@@ -10,4 +10,5 @@ returns-in-Ok g c =
 
 pub returns-in-Err : goal.returns-in-Err
 returns-in-Err g c =
-    refused_known (g.R.Read.remaining c.args.reader.now) 4 (g.W.Write.contents c.args.writer.now) (g.W.Write.contents c.args.writer.now) (omega arith)
+    rw c.from.ensures
+    (refused_known (g.R.Read.remaining c.args.reader.now) 4 (g.W.Write.contents c.args.writer.now) (g.W.Write.contents c.args.writer.now) (omega arith))
