@@ -9,7 +9,7 @@ use up_stanza::{Action, Exit, Limit, Setting, Signal};
 use up_text::{Items, Name, Text, copy_texts};
 
 /// A job (init(5)).
-#[derive(Debug, Drop)]
+#[derive(Debug)]
 pub struct JobDef {
     pub name: Name,
     /// Whether it counts as started only once its main process has ended.
@@ -45,6 +45,34 @@ pub struct JobDef {
     pub start_on: Option<Condition>,
     /// The events that stop an instance of it.
     pub stop_on: Option<Condition>,
+}
+
+// Written out, so that what drops a job is proved here once, and not in each crate above.
+impl Drop for JobDef {
+    fn drop(self) {
+        let JobDef {
+            name: _,
+            task: _,
+            respawn: _,
+            silent: _,
+            instance: _,
+            dir: _,
+            limit: _,
+            kill_signal: _,
+            kill_timeout: _,
+            reload_signal: _,
+            env: _,
+            export: _,
+            normal: _,
+            main: _,
+            pre_start: _,
+            post_start: _,
+            pre_stop: _,
+            post_stop: _,
+            start_on: _,
+            stop_on: _,
+        } = self;
+    }
 }
 
 impl JobDef {
