@@ -12,7 +12,6 @@ use up_model::{EventId, Failure, Goal, State};
 use up_text::{Env, Items, Text};
 
 /// An instance of a job.
-#[derive(Drop)]
 pub struct Instance {
     pub name: Text,
     /// The job file from which it was made.
@@ -39,6 +38,29 @@ pub struct Instance {
     pub moments: Moments,
     /// What its `stop on` remembers.
     pub stop_on: Trigger,
+}
+
+// Written out, so that what drops an instance is proved here once, and not in each crate above.
+impl Drop for Instance {
+    fn drop(self) {
+        let Instance {
+            name: _,
+            file: _,
+            goal: _,
+            state: _,
+            restarted: _,
+            pending: _,
+            env: _,
+            stop_env: _,
+            failure: _,
+            holders: _,
+            blocker: _,
+            children: _,
+            kill_moment: _,
+            moments: _,
+            stop_on: _,
+        } = self;
+    }
 }
 
 pub(crate) fn new_instance(
