@@ -1,13 +1,13 @@
 -- Which instance waits for an event.
-use Rattle.std.proofs.Common.{◌≡◌, ℕ, zero, suc, ◌+◌, ◌==◌, ◌<◌, ◌≤◌, Bool, true, false, List, [], ◌∷◌, length, drop, get_or, Option, None, Some, is_some, if◌then◌else◌, refl, ◌∙◌, ap, arith, add-one, drop-cons, eqb-true}
+use Rattle.std.proofs.Common.{◌≡◌, ℕ, zero, suc, ◌+◌, ◌==◌, ◌<◌, ◌≤◌, nat_lt, Bool, true, false, List, [], ◌∷◌, length, drop, get_or, Option, None, Some, if◌then◌else◌, refl, ◌∙◌, ap, arith, add-one, drop-cons, eqb-true}
 use Rattle.up_job.specs.JobLists.{instance_at, instances_at, list_of}
 use Rattle.up_job.specs.Lists.{nth}
-use Rattle.up_job.specs.Unblocking.{AreQuiet, is_event, is_blocked, blocked_from, IsBlocked}
+use Rattle.up_job.specs.Unblocking.{AreCalm, AreQuiet, is_event, is_blocked, blocked_from, IsBlocked}
 use Rattle.up_model.specs.declared.event_id.EventId.{EventId}
 use Rattle.up_job.specs.declared.instance.Instance.{Instance}
 use Rattle.up_job.specs.declared.instances.JobInstances.{JobInstances}
 use Rattle.up_job.specs.declared.instance_key.InstanceKey.{InstanceKey}
-use Rattle.up_job.proofs.Places.{nth_get, nth_within}
+use Rattle.up_job.proofs.Places.{nth_get}
 use Rattle.up_job.proofs.WaitLemmas.{calm-blocked}
 
 -- those from one on
@@ -65,13 +65,13 @@ free-more id place jobs its within is none before key less = by_case (key.job ==
         ∙ none-in id 0 its.instances none key.at
     by_case false differs = before key (grind (arith, differs, less))
 
--- and where there is no other job
-pub free-all : (id : EventId) (place : ℕ) (jobs : List JobInstances) → length jobs ≤ place → AreFree id place jobs → IsBlocked id jobs None
-free-all id place jobs past before key = by_job (nth key.job jobs) refl
+-- and where no instance of the other jobs waits
+pub free-all : (id : EventId) (place calm : ℕ) (jobs : List JobInstances) → calm ≤ place → AreFree id place jobs → AreCalm calm jobs → IsBlocked id jobs None
+free-all id place calm jobs past before beyond key = by_case (nat_lt key.job place) refl
   where
-    by_job : (o : Option JobInstances) → nth key.job jobs ≡ o → is_blocked id (instance_at key jobs) ≡ false
-    by_job None is = ap (λ o. is_blocked id (nth key.at (list_of o))) is
-    by_job (Some its) is = before key (omega (arith, past, nth_within key.job jobs (ap is_some is)))
+    by_case : (less : Bool) → nat_lt key.job place ≡ less → is_blocked id (instance_at key jobs) ≡ false
+    by_case true is = before key (grind (arith, is))
+    by_case false is = none-in id 0 (instances_at key.job jobs) (calm-blocked id 0 (instances_at key.job jobs) (beyond key.job (grind (arith, is, past)))) key.at
 
 -- the job at a place has one
 pub found-at : (id : EventId) (place at : ℕ) (jobs : List JobInstances) (its : JobInstances) → place < length jobs → its ≡ get_or jobs place its → blocked_from id 0 its.instances ≡ Some at

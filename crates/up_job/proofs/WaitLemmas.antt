@@ -1,6 +1,7 @@
 -- Lists of instances of which none waits for an event.
-use Rattle.std.proofs.Common.{◌≡◌, ℕ, zero, suc, ◌+◌, ◌<◌, nat_lt, Bool, true, false, ◌||◌, ◌&&◌, List, [], ◌∷◌, Option, None, Some, is_some, Result, Ok, Err, OnOk, OnErr, bytes_eq, if◌then◌else◌, refl, sym, ◌∙◌, ap, subst, arith}
+use Rattle.std.proofs.Common.{◌≡◌, ℕ, zero, suc, ◌+◌, ◌==◌, ◌<◌, ◌≤◌, nat_le, nat_lt, Bool, true, false, ◌||◌, ◌&&◌, List, [], ◌∷◌, map, length, Option, None, Some, is_some, Result, Ok, Err, OnOk, OnErr, bytes_eq, if◌then◌else◌, refl, sym, ◌∙◌, ap, subst, arith}
 use Rattle.up_conf.specs.Order.{is_below}
+use Rattle.up_conf.specs.declared.job.JobDef.{JobDef}
 use Rattle.up_model.specs.declared.event_id.EventId.{EventId}
 use Rattle.up_model.specs.declared.state.State.{State}
 use Rattle.up_model.specs.declared.state.State.TheVariants.{Starting}
@@ -11,10 +12,11 @@ use Rattle.up_job.specs.declared.instance.Instance.{Instance}
 use Rattle.up_job.specs.declared.instances.JobInstances.{JobInstances}
 use Rattle.up_job.specs.Changes.{changed, entered}
 use Rattle.up_job.specs.InstanceLists.{with_change, with_instance, without}
-use Rattle.up_job.specs.JobLists.{changed_in, instances_at, with_made}
+use Rattle.up_job.specs.JobLists.{changed_in, instances_at, list_of, new_job, with_made}
 use Rattle.up_job.specs.Lists.{with_at, with_named, without_at}
-use Rattle.up_job.specs.Unblocking.{AreQuiet, blocked_from, is_event, unblocked, without_id}
+use Rattle.up_job.specs.Unblocking.{AreCalm, AreQuiet, NoneWaits, blocked_from, is_event, unblocked, without_id}
 use Rattle.up_job.specs.Waiting.{any_waits, is_wait}
+use Rattle.up_job.proofs.Places.{none_with_at, nth_none}
 
 or-parts : (a b : Bool) → (a || b) ≡ false → (a ≡ false) × (b ≡ false)
 or-parts true b none = absurd cc
@@ -119,10 +121,31 @@ calm-blocked id low (x ∷ xs) none =
     let parts = or-parts (is_some x.blocker) (any_waits xs) none in
     rw (not-event id x.blocker parts.0) (calm-blocked id (low + 1) xs parts.1)
 
--- the instances of the jobs before a place
+-- the instances of the jobs before a place, and of those from one on
 
 pub quiet-none : (jobs : List JobInstances) → AreQuiet 0 jobs
 quiet-none jobs job less = absurd (omega (arith, less))
+
+-- there is no job from the length on
+pub beyond-all : (calm : ℕ) (jobs : List JobInstances) → length jobs ≤ calm → AreCalm calm jobs
+beyond-all calm jobs past job from = ap (λ o. any_waits (list_of o)) (nth_none job jobs (omega (arith, past, from)))
+
+-- jobs without instances
+pub beyond-new : (calm : ℕ) (jobs : List JobDef) → AreCalm calm (map new_job jobs)
+beyond-new calm jobs job from = among jobs job
+  where
+    among : (jobs : List JobDef) (job : ℕ) → any_waits (instances_at job (map new_job jobs)) ≡ false
+    among [] job = refl
+    among (file ∷ jobs) zero = refl
+    among (file ∷ jobs) (suc job) = among jobs job
+
+-- where no job is between the two places
+pub nobody-waits : (quiet calm : ℕ) (jobs : List JobInstances) → calm ≤ quiet → AreQuiet quiet jobs → AreCalm calm jobs → (job : ℕ) → any_waits (instances_at job jobs) ≡ false
+nobody-waits quiet calm jobs past before beyond job = by_case (nat_lt job quiet) refl
+  where
+    by_case : (less : Bool) → nat_lt job quiet ≡ less → any_waits (instances_at job jobs) ≡ false
+    by_case true is = before job (grind (arith, is))
+    by_case false is = beyond job (grind (arith, is, past))
 
 -- one job changes so that none of its instances begins to wait
 calm-job : (place : ℕ) (f : JobInstances → JobInstances) → ((its : JobInstances) → any_waits its.instances ≡ false → any_waits (f its).instances ≡ false) → (jobs : List JobInstances) (job : ℕ)
@@ -133,23 +156,24 @@ calm-job zero f keeps (its ∷ jobs) (suc job) none = none
 calm-job (suc place) f keeps (its ∷ jobs) zero none = none
 calm-job (suc place) f keeps (its ∷ jobs) (suc job) none = calm-job place f keeps jobs job none
 
-pub quiet-with_at : (quiet place : ℕ) (f : JobInstances → JobInstances) → ((its : JobInstances) → any_waits its.instances ≡ false → any_waits (f its).instances ≡ false)
-    → (jobs : List JobInstances) → AreQuiet quiet jobs → AreQuiet quiet (with_at place f jobs)
-quiet-with_at quiet place f keeps jobs before job less = calm-job place f keeps jobs job (before job less)
+pub none-with_at : (places : ℕ → Type 0) (place : ℕ) (f : JobInstances → JobInstances) → ((its : JobInstances) → any_waits its.instances ≡ false → any_waits (f its).instances ≡ false)
+    → (jobs : List JobInstances) → NoneWaits places jobs → NoneWaits places (with_at place f jobs)
+none-with_at places place f keeps jobs none job there = calm-job place f keeps jobs job (none job there)
 
 -- or none, if the change is refused
-pub quiet-if_ok : {A E : Type 0} (r : Result A E) (quiet place : ℕ) (f : JobInstances → JobInstances)
+pub none-if_ok : {A E : Type 0} (r : Result A E) (places : ℕ → Type 0) (place : ℕ) (f : JobInstances → JobInstances)
     → ((its : JobInstances) → any_waits its.instances ≡ false → any_waits (f its).instances ≡ false) → (old new : List JobInstances) → OnOk r (new ≡ with_at place f old) → OnErr r (new ≡ old)
-    → AreQuiet quiet old → AreQuiet quiet new
-quiet-if_ok (Ok x) quiet place f keeps old new ok err before = subst (AreQuiet quiet) (sym ok) (quiet-with_at quiet place f keeps old before)
-quiet-if_ok (Err e) quiet place f keeps old new ok err before = subst (AreQuiet quiet) (sym err) before
+    → NoneWaits places old → NoneWaits places new
+none-if_ok (Ok x) places place f keeps old new ok err none = subst (NoneWaits places) (sym ok) (none-with_at places place f keeps old none)
+none-if_ok (Err e) places place f keeps old new ok err none = subst (NoneWaits places) (sym err) none
 
--- a job changes somehow, and those before it stay
-earlier-same : (place : ℕ) (f : JobInstances → JobInstances) (jobs : List JobInstances) (job : ℕ) → job < place → instances_at job (with_at place f jobs) ≡ instances_at job jobs
-earlier-same place f [] job less = refl
-earlier-same zero f (its ∷ jobs) job less = absurd (omega (arith, less))
-earlier-same (suc place) f (its ∷ jobs) zero less = refl
-earlier-same (suc place) f (its ∷ jobs) (suc job) less = earlier-same place f jobs job (omega (arith, less))
+-- a job changes somehow, and the others stay
+other-same : (place : ℕ) (f : JobInstances → JobInstances) (jobs : List JobInstances) (job : ℕ) → (job == place) ≡ false → instances_at job (with_at place f jobs) ≡ instances_at job jobs
+other-same place f [] job differs = refl
+other-same zero f (its ∷ jobs) zero differs = absurd cc
+other-same zero f (its ∷ jobs) (suc job) differs = refl
+other-same (suc place) f (its ∷ jobs) zero differs = refl
+other-same (suc place) f (its ∷ jobs) (suc job) differs = other-same place f jobs job (grind (arith, differs))
 
 -- one instance changes; if it begins to wait, the jobs before its own stay quiet
 pub quiet-changed : (quiet : ℕ) (its : Change) (at place : ℕ) (jobs : List JobInstances) → AreQuiet quiet jobs
@@ -160,13 +184,32 @@ quiet-changed quiet its at place jobs before = by_case (is_wait its) (nat_lt pla
     after = with_at place (changed_in at (changed its)) jobs
 
     earlier : (job : ℕ) → job < place → job < quiet → any_waits (instances_at job after) ≡ false
-    earlier job less within = ap any_waits (earlier-same place (changed_in at (changed its)) jobs job less) ∙ before job within
+    earlier job less within = ap any_waits (other-same place (changed_in at (changed its)) jobs job (grind (arith, less))) ∙ before job within
 
     by_case : (wait less : Bool) → is_wait its ≡ wait → nat_lt place quiet ≡ less → AreQuiet (if wait && less then place else quiet) after
     by_case false less calm is =
-        quiet-with_at quiet place (changed_in at (changed its)) (λ job none. calm-with_at at (changed its) (calm-changed its calm) job.instances none) jobs before
+        none-with_at (λ n. n < quiet) place (changed_in at (changed its)) (λ job none. calm-with_at at (changed its) (calm-changed its calm) job.instances none) jobs before
     by_case true true wait is = λ job below. earlier job below (grind (arith, is, below))
     by_case true false wait is = λ job below. earlier job (grind (arith, is, below)) below
+
+-- and those from the next job on stay calm; where there is no such job, nothing changes
+pub beyond-changed : (calm : ℕ) (its : Change) (at place count : ℕ) (jobs : List JobInstances) → length jobs ≤ count → AreCalm calm jobs
+    → AreCalm (if (is_wait its && nat_le calm place) && nat_lt place count then place + 1 else calm) (with_at place (changed_in at (changed its)) jobs)
+beyond-changed calm its at place count jobs all beyond = by_case (is_wait its) (nat_le calm place) (nat_lt place count) refl refl refl
+  where
+    change : JobInstances → JobInstances
+    change = changed_in at (changed its)
+
+    later : (job : ℕ) → place < job → calm ≤ job → any_waits (instances_at job (with_at place change jobs)) ≡ false
+    later job more from = ap any_waits (other-same place change jobs job (grind (arith, more))) ∙ beyond job from
+
+    by_case : (wait past there : Bool) → is_wait its ≡ wait → nat_le calm place ≡ past → nat_lt place count ≡ there
+        → AreCalm (if (wait && past) && there then place + 1 else calm) (with_at place change jobs)
+    by_case false past there none is within =
+        none-with_at (λ n. calm ≤ n) place change (λ job calm. calm-with_at at (changed its) (calm-changed its none) job.instances calm) jobs beyond
+    by_case true false there wait is within = λ job from. later job (grind (arith, is, from)) from
+    by_case true true true wait is within = λ job from. later job (grind (arith, from)) (grind (arith, is, from))
+    by_case true true false wait is within = subst (AreCalm calm) (sym (none_with_at change place jobs (grind (arith, within, all)))) beyond
 
 -- an instance waits no longer
 pub calm-unblocked : (id : EventId) (at : ℕ) (its : JobInstances) → any_waits its.instances ≡ false → any_waits (changed_in at (unblocked id) its).instances ≡ false

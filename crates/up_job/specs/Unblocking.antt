@@ -1,5 +1,5 @@
 -- An event that finishes blocks nobody any more.
-use Rattle.std.specs.Prelude.{◌≡◌, ◌+◌, ◌<◌, ◌==◌, ℕ, map, Bool, true, false, List, [], ◌∷◌, Option, None, Some, if◌then◌else◌}
+use Rattle.std.specs.Prelude.{◌≡◌, ◌+◌, ◌<◌, ◌≤◌, ◌==◌, ℕ, map, Bool, true, false, List, [], ◌∷◌, Option, None, Some, if◌then◌else◌}
 use Rattle.up_model.specs.declared.event_id.EventId.{EventId}
 use Rattle.up_job.specs.declared.instance.Instance.{Instance}
 use Rattle.up_job.specs.declared.instance_key.InstanceKey.{InstanceKey}
@@ -43,6 +43,14 @@ abbrev pub unblocked_at : EventId → Option InstanceKey → List JobInstances �
 unblocked_at id None jobs = jobs
 unblocked_at id (Some key) jobs = changed_at key (unblocked id) jobs
 
--- no instance of the jobs before this place waits for an event
+-- no instance of the jobs at these places waits for an event
+abbrev pub NoneWaits : (ℕ → Type 0) → List JobInstances → Type 0
+NoneWaits places jobs = (job : ℕ) → places job → any_waits (instances_at job jobs) ≡ false
+
+-- none of the jobs before this place does
 abbrev pub AreQuiet : (quiet : ℕ) → List JobInstances → Type 0
-AreQuiet quiet jobs = (job : ℕ) → job < quiet → any_waits (instances_at job jobs) ≡ false
+AreQuiet quiet jobs = NoneWaits (λ job. job < quiet) jobs
+
+-- none of the jobs from this place on does
+abbrev pub AreCalm : (calm : ℕ) → List JobInstances → Type 0
+AreCalm calm jobs = NoneWaits (λ job. calm ≤ job) jobs

@@ -1,5 +1,5 @@
 //! Instances by their keys. Only `add_at` allocates.
-ghost use Rattle.std.specs.Prelude.{◌≡◌, ◌<◌, length, map, OnOk, OnErr, IfOk, IfErr, option_map, IsSome, Some, None};
+ghost use Rattle.std.specs.Prelude.{◌≡◌, ◌<◌, ◌≤◌, length, map, OnOk, OnErr, IfOk, IfErr, option_map, IsSome, Some, None};
 ghost use Rattle.std.specs.Option.{option_copied};
 ghost use Rattle.std.specs.Borrow.{sem};
 ghost use Rattle.up_job.specs.Alarms.{AllFrom};
@@ -8,7 +8,7 @@ ghost use Rattle.up_job.specs.InstanceLists.{max_instances, name_of, named, new_
 ghost use Rattle.up_job.specs.JobLists.{changed_at, changed_in, instance_at, instances_at, job_of, key_of, position_at, removed_at, removed_in, with_made};
 ghost use Rattle.up_job.specs.Lending.{stop_on_of, LendsStopOnAt};
 ghost use Rattle.up_job.specs.Lists.{nth, with_at, position_in};
-ghost use Rattle.up_job.specs.Unblocking.{AreQuiet, IsBlocked, unblocked, unblocked_at};
+ghost use Rattle.up_job.specs.Unblocking.{AreCalm, AreQuiet, IsBlocked, unblocked, unblocked_at};
 
 use crate::alarm::{alarm_after, earliest};
 use crate::change::Change;
@@ -16,7 +16,7 @@ use crate::fault::JobFault;
 use crate::instance::Instance;
 use crate::instance_key::InstanceKey;
 use crate::instances::{Instances, JobInstances};
-use crate::unblocking::quiet_after;
+use crate::unblocking::{calm_after, quiet_after};
 use up_image::JobFile;
 use up_marks::Trigger;
 use up_model::EventId;
@@ -82,12 +82,23 @@ fn unblock_at(jobs: &mut Vec<JobInstances>, key: InstanceKey, id: EventId)
     }
 }
 
-// The index of the first job of which an instance may wait for an event. None of the jobs before `quiet` is looked at.
-fn quiet_from(jobs: &[JobInstances], quiet: usize) -> usize
-    requires { AreQuiet quiet jobs.now }
+// The index at which a search among the jobs before `calm` ends.
+fn search_end(jobs: &[JobInstances], calm: usize) -> usize
+    requires { AreCalm calm jobs.now }
+    ensures calm { AreCalm result jobs.now }
+    ensures within { result ≤ length jobs.now }
+{
+    if calm < jobs.len() { calm } else { jobs.len() }
+}
+
+// The index of the first job of which an instance may wait for an event. Only the jobs from `quiet` to `calm` are looked at.
+fn quiet_from(jobs: &[JobInstances], quiet: usize, calm: usize) -> usize
+    requires quiet { AreQuiet quiet jobs.now }
+    requires calm { AreCalm calm jobs.now }
     ensures { AreQuiet result jobs.now }
 {
-    for job in quiet..jobs.len() {
+    let end = search_end(jobs, calm);
+    for job in quiet..end {
         if jobs[job].instances.may_wait() {
             return job;
         }
@@ -95,12 +106,28 @@ fn quiet_from(jobs: &[JobInstances], quiet: usize) -> usize
     jobs.len()
 }
 
-// The first instance that waits for this event, which is none of the jobs before `quiet`.
-fn first_blocked(jobs: &[JobInstances], quiet: usize, id: EventId) -> Option<InstanceKey>
-    requires { AreQuiet quiet jobs.now }
+// The index from which on no instance waits for an event: the first, if none does before the end either.
+fn calm_from(jobs: &[JobInstances], quiet: usize, calm: usize) -> usize
+    requires quiet { AreQuiet quiet jobs.now }
+    requires calm { AreCalm calm jobs.now }
+    ensures { AreCalm result jobs.now }
+{
+    if quiet < jobs.len() { calm } else { 0 }
+}
+
+// The first instance that waits for this event, which is one of the jobs from `quiet` to `calm`.
+fn first_blocked(
+    jobs: &[JobInstances],
+    quiet: usize,
+    calm: usize,
+    id: EventId,
+) -> Option<InstanceKey>
+    requires quiet { AreQuiet quiet jobs.now }
+    requires calm { AreCalm calm jobs.now }
     ensures { IsBlocked id jobs.now result }
 {
-    for job in quiet..jobs.len() {
+    let end = search_end(jobs, calm);
+    for job in quiet..end {
         if let Some(at) = jobs[job].instances.first_blocked(id) {
             return Some(InstanceKey { job, at });
         }
@@ -209,6 +236,7 @@ impl Instances {
     {
         self.alarm = alarm_after(&its, self.alarm);
         self.quiet = quiet_after(self.quiet, &its, key.job);
+        self.calm = calm_after(self.calm, &its, key.job, self.jobs.len());
         change_at(&mut self.jobs, key, its);
     }
 
@@ -267,8 +295,9 @@ impl Instances {
         ensures after { self.new ≡ unblocked_at event result self.old }
         ensures blocked { IsBlocked event self.old result }
     {
-        self.quiet = quiet_from(self.jobs.as_slice(), self.quiet);
-        match first_blocked(self.jobs.as_slice(), self.quiet, event) {
+        self.quiet = quiet_from(self.jobs.as_slice(), self.quiet, self.calm);
+        self.calm = calm_from(self.jobs.as_slice(), self.quiet, self.calm);
+        match first_blocked(self.jobs.as_slice(), self.quiet, self.calm, event) {
             Some(key) => {
                 unblock_at(&mut self.jobs, key, event);
                 Some(key)

@@ -29,8 +29,10 @@ pub struct Instances {
     pub(crate) jobs: Vec<JobInstances>,
     // The timer kills nobody before the clock reads this. It may be too early.
     pub(crate) alarm: u128,
-    // No instance of the jobs before this index waits for an event, so none of theirs is searched. It may be too early.
+    // No instance of the jobs before this index waits for an event. It may be too early.
     pub(crate) quiet: usize,
+    // No instance of the jobs from this index on waits for an event. It may be too late. So only the jobs between the two are searched.
+    pub(crate) calm: usize,
 }
 
 impl Model for Instances {
@@ -39,7 +41,7 @@ impl Model for Instances {
     ghost use Rattle.up_job.specs.JobLists.{job_of};
     ghost use Rattle.up_job.specs.Alarms.{AllFrom};
     ghost use Rattle.up_job.specs.Named.{AreInOrder};
-    ghost use Rattle.up_job.specs.Unblocking.{AreQuiet};
+    ghost use Rattle.up_job.specs.Unblocking.{AreCalm, AreQuiet};
     ghost use Rattle.std.specs.Coded.{codes};
     ghost use Rattle.up_conf.specs.contracts.job.JobDef as job;
 
@@ -50,7 +52,7 @@ impl Model for Instances {
     ghost view = { λ s. s.jobs.items };
 
     ghost invariant = { λ s. AreInOrder job_of s.jobs.items × AllFrom s.alarm s.jobs.items
-        × AreQuiet s.quiet s.jobs.items };
+        × AreQuiet s.quiet s.jobs.items × AreCalm s.calm s.jobs.items };
 }
 
 // The index at which a job belongs.
@@ -197,6 +199,7 @@ impl Instances {
             jobs: Vec::new(alloc),
             alarm: u128::MAX,
             quiet: 0,
+            calm: 0,
         }
     }
 
@@ -210,6 +213,7 @@ impl Instances {
             jobs,
             alarm: u128::MAX,
             quiet: 0,
+            calm: 0,
         })
     }
 
@@ -250,6 +254,7 @@ impl Instances {
     {
         self.alarm = 0;
         self.quiet = 0;
+        self.calm = usize::MAX;
         match place(self.jobs.as_slice(), job) {
             Ok(_) => {
                 add_to(&mut self.jobs, job, instance, file, stop_on)?;
@@ -269,6 +274,7 @@ impl Instances {
     {
         self.alarm = 0;
         self.quiet = 0;
+        self.calm = usize::MAX;
         change(&mut self.jobs, job, instance, its);
     }
 
@@ -279,6 +285,7 @@ impl Instances {
     {
         self.alarm = 0;
         self.quiet = 0;
+        self.calm = usize::MAX;
         take(&mut self.jobs, job, instance)
     }
 }

@@ -51,6 +51,7 @@ impl Instances {
     {
         self.alarm = 0;
         self.quiet = 0;
+        self.calm = usize::MAX;
         let kept = taken(alloc, &mut self.jobs, jobs)?;
         self.jobs = kept;
         Ok(())

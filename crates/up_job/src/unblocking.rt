@@ -1,5 +1,5 @@
 //! An event that has finished blocks nobody.
-ghost use Rattle.std.specs.Prelude.{◌≡◌, ◌||◌, ◌&&◌, nat_lt, if◌then◌else◌};
+ghost use Rattle.std.specs.Prelude.{◌≡◌, ◌+◌, ◌||◌, ◌&&◌, nat_le, nat_lt, if◌then◌else◌};
 ghost use Rattle.up_job.specs.Lists.{with_at};
 ghost use Rattle.up_job.specs.Unblocking.{blocked_from, is_event, unblocked};
 ghost use Rattle.up_job.specs.Waiting.{any_waits, is_wait};
@@ -32,6 +32,17 @@ pub(crate) fn quiet_after(quiet: usize, its: &Change, job: usize) -> usize
         job
     } else {
         quiet
+    }
+}
+
+/// The index of a job from which on no instance waits for an event, after a change of one of this job. There are `count` jobs.
+pub(crate) fn calm_after(calm: usize, its: &Change, job: usize, count: usize) -> usize
+    ensures { result ≡ (if (is_wait its.now && nat_le calm job) && nat_lt job count then job + 1 else calm) }
+{
+    if is_wait(its) && calm <= job && job < count {
+        job + 1
+    } else {
+        calm
     }
 }
 
