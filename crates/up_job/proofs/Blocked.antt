@@ -1,5 +1,5 @@
 -- Which instance waits for an event.
-use Rattle.std.proofs.Common.{◌≡◌, ℕ, zero, suc, ◌+◌, ◌==◌, ◌<◌, ◌≤◌, nat_lt, Bool, true, false, List, [], ◌∷◌, length, drop, get_or, Option, None, Some, if◌then◌else◌, refl, ◌∙◌, ap, arith, add-one, drop-cons, eqb-true}
+use Rattle.std.proofs.Common.{◌≡◌, ℕ, zero, suc, ◌+◌, ◌==◌, ◌<◌, ◌≤◌, nat_lt, Bool, true, false, List, [], ◌∷◌, length, drop, get_or, None, Some, if◌then◌else◌, refl, ◌∙◌, ap, arith, add-one, drop-cons, eqb-true}
 use Rattle.up_job.specs.JobLists.{instance_at, instances_at, list_of}
 use Rattle.up_job.specs.Lists.{nth}
 use Rattle.up_job.specs.Unblocking.{AreCalm, AreQuiet, is_event, is_blocked, blocked_from, IsBlocked}
