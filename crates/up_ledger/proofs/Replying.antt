@@ -1,5 +1,5 @@
 -- The replies of a release are those to the clients that are kept as holders.
-use Rattle.std.proofs.Common.{◌≡◌, ℕ, ◌+◌, ◌<◌, ◌≤◌, Bool, List, [], ◌∷◌, ◌++◌, length, map, Option, None, Some, option_map, refl, sym, ◌∙◌, ap, arith, add-one, append_assoc, append-nil, drop, drop-cons, get_or}
+use Rattle.std.proofs.Common.{◌≡◌, ℕ, ◌+◌, ◌<◌, ◌≤◌, Bool, false, List, [], ◌∷◌, ◌++◌, length, map, Option, None, Some, option_map, refl, sym, ◌∙◌, ap, arith, add-one, append_assoc, append-nil, drop, drop-cons, get_or}
 use Rattle.up_model.specs.declared.input.Input.TheVariants as input
 use Rattle.up_model.specs.declared.output.Output.{Output}
 use Rattle.up_model.specs.Chronicle.{Chronicle, Entry, Given, Queued, Replied}
@@ -13,7 +13,7 @@ use Rattle.up_model.proofs.Places.{older-other}
 use Rattle.up_job.specs.declared.holder.Holder.{Holder}
 use Rattle.up_job.specs.declared.holder.Holder.TheVariants as holder
 use Rattle.up_book.specs.Keeps.{AreOlder}
-use Rattle.up_ledger.specs.Replying.{reply_to, replies_to}
+use Rattle.up_ledger.specs.Replying.{any_client, reply_to, replies_to}
 use Rattle.up_book.specs.Summaries.{ByEvent, ByClient, holding_in, holding_at}
 use Rattle.up_book.specs.Views.{Places, holding_of}
 
@@ -81,3 +81,13 @@ pub replies_left : (its : List Holder) (i : ℕ) (d : Holder) (failed : Bool) (t
 replies_left its i d failed told outs within =
     let one : drop i its ≡ get_or its i d ∷ drop (i + 1) its = rw add-one (drop-cons its i d within) in
     ap (λ hs. outs ++ replies_to hs failed told) one ∙ sym (append_assoc outs (reply_to (get_or its i d) failed told) (replies_to (drop (i + 1) its) failed told))
+
+-- nobody is told anything if no client holds an instance
+pub nobody-told : (holders : List Holder) → any_client holders ≡ false → (failed : Bool) (told : Bytes) → replies_to holders failed told ≡ []
+nobody-told [] none failed told = refl
+nobody-told (holder.Event id ∷ later) none failed told = nobody-told later none failed told
+nobody-told (holder.Client id command ∷ later) none failed told = absurd cc
+
+-- so it doesn't matter what
+pub nobody_asks : (holders : List Holder) → any_client holders ≡ false → (failed : Bool) (told other : Bytes) → replies_to holders failed told ≡ replies_to holders failed other
+nobody_asks holders none failed told other = nobody-told holders none failed told ∙ sym (nobody-told holders none failed other)

@@ -1,5 +1,6 @@
 -- What clients are answered that held an instance.
-use Rattle.std.specs.Prelude.{ℕ, Bool, Option, None, Some, List, [], ◌∷◌, ◌++◌}
+use Rattle.std.specs.Prelude.{ℕ, Bool, true, false, Option, None, Some, List, [], ◌∷◌, ◌++◌}
+use Rattle.std.specs.List.{list_any}
 use Rattle.up_event.specs.declared.live.Finished.{Finished}
 use Rattle.up_model.specs.declared.output.Output.{Output}
 use Rattle.up_model.specs.declared.output.Output.TheVariants as output
@@ -8,6 +9,15 @@ use Rattle.up_model.specs.Replies.{answer_to}
 use Rattle.up_model.specs.Values.{Bytes}
 use Rattle.up_job.specs.declared.holder.Holder.{Holder}
 use Rattle.up_job.specs.declared.holder.Holder.TheVariants as holder
+
+-- whether a holder is a client
+abbrev pub is_client : Holder → Bool
+is_client (holder.Event id) = false
+is_client (holder.Client id command) = true
+
+-- whether one of these is
+abbrev pub any_client : List Holder → Bool
+any_client holders = list_any is_client holders
 
 abbrev pub reply_to : Holder → (failed : Bool) → Bytes → List Output
 reply_to (holder.Event id) failed told = []

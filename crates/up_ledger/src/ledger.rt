@@ -340,7 +340,7 @@ impl Book for Ledger {
     }
 
     fn release(&mut self, key: InstanceKey) -> Result<(), AllocError> {
-        let told = self.past.status_of(self.alloc, key)?;
+        let told = self.past.told_to_clients(self.alloc, key)?;
         reply_held(
             &mut self.step.outputs,
             self.alloc,
@@ -379,7 +379,7 @@ impl Book for Ledger {
     }
 
     fn fail(&mut self, key: InstanceKey, failure: Failure) -> Result<(), AllocError> {
-        let told = self.past.status_of(self.alloc, key)?;
+        let told = self.past.told_to_clients(self.alloc, key)?;
         reply_held(
             &mut self.step.outputs,
             self.alloc,

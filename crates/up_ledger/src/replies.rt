@@ -3,7 +3,7 @@ ghost use Rattle.std.specs.Prelude.{◌≡◌, ◌++◌, ◌∷◌, [], None, If
 ghost use Rattle.std.specs.Option.{option_copied};
 ghost use Rattle.up_ledger.specs.Holding.{held_by_kept};
 ghost use Rattle.up_ledger.specs.Asking.{number_asked};
-ghost use Rattle.up_ledger.specs.Replying.{finished_replies, reply_to, replies_to, waiter_replies};
+ghost use Rattle.up_ledger.specs.Replying.{any_client, finished_replies, is_client, reply_to, replies_to, waiter_replies};
 ghost use Rattle.up_model.specs.Outputs.{reply_of};
 ghost use Rattle.up_model.specs.Replies as model;
 ghost use Rattle.up_model.specs.declared.output.Output.TheVariants as output;
@@ -113,6 +113,22 @@ pub(crate) fn reply_finished(
         None => {}
     }
     Ok(())
+}
+
+fn is_client(holder: &Holder) -> bool
+    ensures { result ≡ is_client holder.now }
+{
+    matches!(holder, Holder::Client { .. })
+}
+
+/// Whether a client holds an instance.
+pub(crate) fn has_client(kept: Option<&Instance>) -> bool
+    ensures { result ≡ any_client (held_by_kept (option_copied kept.entry)) }
+{
+    match kept {
+        Some(kept) => kept.holders.as_slice().iter().any(is_client),
+        None => false,
+    }
 }
 
 // Answers a holder, if it is a client.

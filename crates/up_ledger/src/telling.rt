@@ -1,10 +1,12 @@
 //! The texts for clients about an instance.
-ghost use Rattle.std.specs.Prelude.{◌≡◌, ◌∷◌, ℕ, Some, option_map, IfOk};
+ghost use Rattle.std.specs.Prelude.{◌≡◌, ◌∷◌, ℕ, Bool, Some, option_map, IfOk};
 ghost use Rattle.up_book.specs.Sending.{own_pid, status_by};
-ghost use Rattle.up_book.specs.Views.{Places, view};
+ghost use Rattle.up_book.specs.Views.{Places, kept_at, view};
 ghost use Rattle.up_conf.specs.declared.job.JobDef.{JobDef as JobValue};
 ghost use Rattle.up_job.specs.JobLists.{job_of};
 ghost use Rattle.up_job.specs.Lists.{nth};
+ghost use Rattle.up_ledger.specs.Holding.{held_by_kept};
+ghost use Rattle.up_ledger.specs.Replying.{replies_to};
 ghost use Rattle.up_model.specs.declared.state.State.TheVariants as entered;
 ghost use Rattle.up_model.specs.Chronicle.{Chronicle};
 ghost use Rattle.up_model.specs.Chronicle as entry;
@@ -12,6 +14,7 @@ ghost use Rattle.up_model.specs.Configuration.{Configuration};
 ghost use Rattle.up_model.specs.Replies as replies;
 
 use crate::past::Past;
+use crate::replies::has_client;
 use std::alloc::{AllocError, Global};
 use up_job::{Children, Instance, InstanceKey, Instances, child_of};
 use up_model::{Process, State, Who, status_text};
@@ -97,6 +100,26 @@ impl Past {
                 Ok(text)
             }
             None => Err(AllocError),
+        }
+    }
+
+    /// The status text for the clients that hold an instance. If none does it is empty, which takes no memory.
+    #[tactic(auto, using(crate::proofs::Replying::nobody_asks))]
+    pub(crate) fn told_to_clients(
+        &self,
+        alloc: Global,
+        key: InstanceKey,
+    ) -> Result<Text, AllocError>
+        ensures { IfOk result (λ text. (config : Configuration) (c : Chronicle) (i : ℕ)
+            → Forgets self.now config c → instance_place self.now c key ≡ Some i → (failed : Bool)
+            → replies_to (held_by_kept (kept_at key self.now.instances)) failed text
+            ≡ replies_to (held_by_kept (kept_at key self.now.instances)) failed (replies.status_of i c)) }
+    {
+        if has_client(self.instances.at(key)) {
+            let text = self.status_of(alloc, key)?;
+            Ok(text)
+        } else {
+            Ok(Text::empty())
         }
     }
 
