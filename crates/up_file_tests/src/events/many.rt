@@ -1,5 +1,5 @@
 //! Many events, in order.
-use crate::queue::{event, turn};
+use crate::events::queue::{event, turn};
 use std::alloc::Global;
 use std::test::Fail;
 use up_event::Events;

@@ -1,5 +1,5 @@
 //! Job files that several share, and the leaves of their expressions.
-use crate::folders::{MANY, image_of, table_of};
+use crate::images::folders::{MANY, image_of, table_of};
 use std::alloc::{AllocError, Global};
 use std::test::Fail;
 use up_conf::JobDef;

@@ -1,8 +1,9 @@
 //! Job files that the tests share.
+use crate::images::folders::compiled;
 use std::alloc::{AllocError, Global};
 use std::test::Fail;
 use up_conf::Folder;
-use up_image::{JobFile, Table, compile};
+use up_image::{JobFile, Table};
 use up_text::{Items, Text};
 
 fn path_of(alloc: Global, at: usize) -> Result<String, AllocError> {
@@ -24,12 +25,6 @@ fn add_jobs(alloc: Global, folder: &mut Folder, jobs: &[&str]) -> Result<(), All
         add_job(alloc, folder, at, *stanzas)?;
     }
     Ok(())
-}
-
-fn compiled(alloc: Global, folder: &Folder) -> Result<Table, Fail> {
-    let (table, report) = compile(alloc, folder)?;
-    drop(report);
-    Ok(table)
 }
 
 // Large values are moved on or dropped by a call, here and below: the prover would go through each field of what a scope drops.

@@ -1,18 +1,18 @@
 //! Which job is the first that an event may concern.
-use crate::files::files_of;
-use crate::queue::event;
+use crate::events::files::files_of;
+use crate::text::{Pair, env_of};
 use std::alloc::{AllocError, Global};
 use std::test::Fail;
 use up_image::JobFile;
 use up_marks::{Finder, lesser_of};
 use up_model::Event;
-use up_text::{Env, TextFault};
+use up_text::Name;
 
 // Jobs of one stanza each, an event `go` with variables, and the first job, from one on, that it may concern.
 struct Case {
     name: &'static str,
     jobs: &'static [&'static str],
-    vars: &'static [(&'static str, &'static str)],
+    vars: &'static [Pair],
     from: usize,
     next: Option<usize>,
 }
@@ -118,22 +118,11 @@ const CASES: &'static [Case] = &[
     },
 ];
 
-fn set_all(vars: &mut Env, pairs: &[(&'static str, &'static str)]) -> Result<(), TextFault> {
-    for pair in pairs {
-        vars.set(pair.0, pair.1)?;
-    }
-    Ok(())
-}
-
-fn event_with(alloc: Global, pairs: &[(&'static str, &'static str)]) -> Result<Event, Fail> {
-    let mut event = event(alloc, "go")?;
-    match set_all(&mut event.vars, pairs) {
-        Ok(()) => Ok(event),
-        Err(fault) => {
-            drop(event);
-            Err(Fail::from(fault))
-        }
-    }
+fn event_with(alloc: Global, pairs: &[Pair]) -> Result<Event, Fail> {
+    Ok(Event {
+        name: Name::new(alloc, "go")?,
+        vars: env_of(alloc, pairs)?,
+    })
 }
 
 // Whether it is the next job that is found.

@@ -1,6 +1,6 @@
 //! Events that are offered to the leaves of one job's `start on`.
-use crate::files::files_of;
-use crate::queue::event;
+use crate::events::files::files_of;
+use crate::events::queue::event;
 use std::alloc::Global;
 use std::test::Fail;
 use up_expr::Condition;

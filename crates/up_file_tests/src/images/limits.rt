@@ -1,10 +1,10 @@
 //! Images near the limit of their size.
+use crate::conf::add_numbered;
 use crate::images::comes_back;
 use std::alloc::{AllocError, Global};
 use std::test::Fail;
 use up_conf::Folder;
 use up_image::{CompileError, ImageError, compile};
-use up_text::{Items, Text};
 
 // In a static, since an array of so many in a function takes the prover long.
 static WORD: [u8; 10_000] = [b'x'; 10_000];
@@ -29,19 +29,11 @@ fn command(alloc: Global) -> Result<Vec<u8>, AllocError> {
     }
 }
 
-fn path_of(alloc: Global, number: u32) -> Result<String, AllocError> {
-    format!(in alloc; "{number}.conf")
-}
-
 fn add_large_job(alloc: Global, folder: &mut Folder, number: u32) -> Result<(), AllocError> {
     let text = command(alloc)?;
-    match path_of(alloc, number) {
-        Ok(path) => folder.add(Text::new(path), Items::new(text)),
-        Err(refused) => {
-            drop(text);
-            Err(refused)
-        }
-    }
+    let added = add_numbered(alloc, folder, number, ".conf", text.as_slice());
+    drop(text);
+    added
 }
 
 fn add_large_jobs(alloc: Global, folder: &mut Folder, jobs: u32) -> Result<(), AllocError> {

@@ -1,5 +1,13 @@
 //! Tables and their images.
-use crate::folders::{
+mod damage;
+mod distribution;
+mod files;
+pub(crate) mod folders;
+mod limits;
+mod memory;
+mod walk;
+
+use crate::images::folders::{
     EMPTY_IMAGE, MANY, OLD_EMPTY_IMAGE, OLD_STARTUP_IMAGE, STARTUP, STARTUP_IMAGE, again, image_of,
 };
 use std::alloc::Global;
@@ -115,6 +123,6 @@ fn check_errors(errors: &[(ImageError, u8, &'static str)]) -> Result<(), Fail> {
 }
 
 #[test]
-fn refusals_have_numbers_and_names() -> Result<(), Fail> {
+fn refusals_of_images_have_numbers_and_names() -> Result<(), Fail> {
     check_errors(ERRORS)
 }

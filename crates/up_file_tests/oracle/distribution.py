@@ -1,9 +1,9 @@
 #!/usr/bin/env python3
-"""Writes src/distribution.rt: the job files and overrides of examples/distribution.
+"""Writes src/images/distribution.rt: the job files and overrides of examples/distribution.
 
 Run in the crate's folder, whenever a file of the example changes:
 
-    python3 oracle/distribution.py > src/distribution.rt
+    python3 oracle/distribution.py > src/images/distribution.rt
 
 A test is run in an empty folder and can't read the files themselves.
 """

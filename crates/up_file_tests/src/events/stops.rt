@@ -1,6 +1,6 @@
 //! Which events may match the `stop on` of a file.
-use crate::files::files_of;
-use crate::queue::event;
+use crate::events::files::files_of;
+use crate::events::queue::event;
 use std::alloc::Global;
 use std::test::Fail;
 use up_image::JobFile;

@@ -1,6 +1,8 @@
 //! Images that were damaged.
-use crate::folders::{BOTH, MANY, OLD_STARTUP_IMAGE, STARTUP_IMAGE, again, image_of, refusal};
 use crate::images::comes_back;
+use crate::images::folders::{
+    BOTH, MANY, OLD_STARTUP_IMAGE, STARTUP_IMAGE, again, image_of, refusal,
+};
 use std::alloc::{AllocError, Global};
 use std::test::Fail;
 use up_image::ImageError;

@@ -1,6 +1,6 @@
 //! A random walk over damaged images.
-use crate::distribution::DISTRIBUTION;
-use crate::folders::{again, image_of};
+use crate::images::distribution::DISTRIBUTION;
+use crate::images::folders::{again, image_of};
 use std::alloc::Global;
 use std::test::Fail;
 

@@ -1,9 +1,9 @@
 //! Folders, and their images as the format's byte listing gives them.
-use std::alloc::{AllocError, Global};
+use crate::conf::folder_of;
+use std::alloc::Global;
 use std::test::Fail;
 use up_conf::Folder;
 use up_image::{ImageError, Table, compile};
-use up_text::{Items, Text};
 
 /// A job that `startup` starts.
 pub(crate) const STARTUP: &'static [(&'static str, &'static [u8])] = &[(
@@ -45,40 +45,6 @@ pub(crate) const MANY: &'static [(&'static str, &'static [u8])] = &[
     ),
     ("a.override", b"env L=\\\\\nstop on b PLACE=\"#1\"\n"),
 ];
-
-fn add_file(
-    alloc: Global,
-    folder: &mut Folder,
-    path: &str,
-    bytes: &[u8],
-) -> Result<(), AllocError> {
-    let path = Text::from_str(alloc, path)?;
-    let bytes = Vec::from_slice(alloc, bytes)?;
-    folder.add(path, Items::new(bytes))
-}
-
-fn add_files(
-    alloc: Global,
-    folder: &mut Folder,
-    files: &[(&str, &[u8])],
-) -> Result<(), AllocError> {
-    for file in files {
-        add_file(alloc, folder, file.0, file.1)?;
-    }
-    Ok(())
-}
-
-/// A folder with these files.
-pub(crate) fn folder_of(alloc: Global, files: &[(&str, &[u8])]) -> Result<Folder, AllocError> {
-    let mut folder = Folder::new(alloc);
-    match add_files(alloc, &mut folder, files) {
-        Ok(()) => Ok(folder),
-        Err(refused) => {
-            drop(folder);
-            Err(refused)
-        }
-    }
-}
 
 /// The table of a folder.
 pub(crate) fn compiled(alloc: Global, folder: &Folder) -> Result<Table, Fail> {

@@ -1,8 +1,9 @@
 //! Calls of which a request for memory may be refused: each answers as with ample memory, or that memory ran out.
 //!
 //! `rt try --test --fail-alloc N -- memory` refuses the Nth request; `bench/faults` goes through all of them with the built tests.
-use crate::folders::{
-    BOTH, EMPTY_IMAGE, MANY, OLD_STARTUP_IMAGE, STARTUP, STARTUP_IMAGE, again, folder_of, refusal,
+use crate::conf::folder_of;
+use crate::images::folders::{
+    BOTH, EMPTY_IMAGE, MANY, OLD_STARTUP_IMAGE, STARTUP, STARTUP_IMAGE, again, refusal,
 };
 use std::alloc::{AllocError, Global};
 use up_conf::{Fault, Folder, Report};

@@ -1,5 +1,5 @@
 //! Instances of a few jobs.
-use crate::files::files_of;
+use crate::events::files::files_of;
 use std::alloc::{AllocError, Global};
 use std::test::Fail;
 use up_conf::Limit;
