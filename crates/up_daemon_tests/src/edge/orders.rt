@@ -1,6 +1,5 @@
-//! The orders that the tests give, and what they look for.
+//! The orders that the tests give, and the paths of their files.
 use std::alloc::Global;
-use std::fmt::Debug;
 use std::test::Fail;
 use std::{env, process};
 use up_model::{Order, Process, Who};
@@ -58,16 +57,4 @@ pub(crate) fn path_of(rt: &HostRuntime, name: &str) -> Result<String, Fail> {
     let name = format!(in rt.alloc(); "up_edge-{name}-{pid}")?;
     let path = folder.join(rt.alloc(), name.as_str())?;
     Ok(String::from_str(rt.alloc(), path.as_path().as_str())?)
-}
-
-/// Fails with the case's name, what came and what was expected, unless these are the same.
-pub(crate) fn same<T: PartialEq + Debug + Drop>(
-    case: &str,
-    found: T,
-    expected: T,
-) -> Result<(), Fail> {
-    if found == expected {
-        return Ok(());
-    }
-    Err(Fail::new(format_args!("{case}: found {found:?}, expected {expected:?}")))
 }

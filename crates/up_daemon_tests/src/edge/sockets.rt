@@ -1,5 +1,6 @@
 //! Real sockets.
-use crate::orders::{path_of, same};
+use crate::edge::orders::path_of;
+use crate::stage::same;
 use mio::net::UnixStream;
 use std::fs::{DirBuilder, metadata, remove_dir, remove_file};
 use std::io::{ErrorKind, Read, Write};

@@ -1,14 +1,13 @@
 //! Hosts and doors that play scripts.
-use crate::orders::{same, shell, who};
-use std::alloc::Global;
+use crate::clients::{Said, door_of, push_client};
+use crate::edge::orders::{shell, who};
+use crate::stage::{End, same};
+use std::alloc::{AllocError, Global};
 use std::test::Fail;
 use up_edge::{
     Door, DoorFault, Failure, Failures, Host, HostFault, Script, ScriptDoor, ScriptHost, Visitor,
 };
-use up_model::{How, Process, Who};
-use up_text::Items;
-
-type End = (Who, Process, How);
+use up_model::{How, Process};
 
 fn end(alloc: Global, how: How) -> Result<End, Fail> {
     Ok((who(alloc)?, Process::Main, how))
@@ -159,49 +158,17 @@ fn faults_have_their_numbers(rt: HostRuntime) {
     assert_eq!(rt; (HostFault.number(), DoorFault.number()), (60, 62));
 }
 
-fn piece(alloc: Global, bytes: &[u8]) -> Result<Option<Items<u8>>, Fail> {
-    let bytes = bytes.to_vec(alloc)?;
-    Ok(Some(Items::new(bytes)))
-}
-
-// One who says nothing, five bytes and the end.
-fn push_pieces(alloc: Global, says: &mut Vec<Option<Items<u8>>>) -> Result<(), Fail> {
-    says.push(None)?;
-    says.push(piece(alloc, b"abcde")?)?;
-    says.push(piece(alloc, b"")?)?;
-    Ok(())
-}
-
-// One who says that, and takes two bytes at first.
-fn visitor(alloc: Global) -> Result<Visitor, Fail> {
-    let takes = Vec::from_slice(alloc, &[2])?;
-    let mut says: Vec<Option<Items<u8>>> = Vec::new(alloc);
-    match push_pieces(alloc, &mut says) {
-        Ok(()) => Ok(Visitor::new(says, takes)),
-        Err(fail) => {
-            drop(says);
-            Err(fail)
-        }
-    }
-}
-
-// Nobody, and then that one.
-fn push_visits(alloc: Global, visits: &mut Vec<Option<Visitor>>) -> Result<(), Fail> {
+// Nobody, and then one who says nothing, five bytes and the end, and takes two bytes at first.
+fn push_visits(alloc: Global, visits: &mut Vec<Option<Visitor>>) -> Result<(), AllocError> {
     visits.push(None)?;
-    visits.push(Some(visitor(alloc)?))?;
-    Ok(())
+    let says = [Said::Nothing, Said::Bytes(b"abcde"), Said::Bytes(b"")];
+    push_client(alloc, visits, &says, &[2])
 }
 
-fn scripted_door(alloc: Global, failures: Vec<Failure>) -> Result<ScriptDoor, Fail> {
+fn scripted_door(alloc: Global, failures: &[Failure]) -> Result<ScriptDoor, AllocError> {
     let mut visits: Vec<Option<Visitor>> = Vec::new(alloc);
-    match push_visits(alloc, &mut visits) {
-        Ok(()) => Ok(ScriptDoor::new(alloc, visits, failures)),
-        Err(fail) => {
-            drop(visits);
-            drop(failures);
-            Err(fail)
-        }
-    }
+    let made = push_visits(alloc, &mut visits);
+    door_of(alloc, visits, made, failures)
 }
 
 fn try_door(rt: &HostRuntime, door: &mut ScriptDoor) -> Result<(), Fail> {
@@ -251,7 +218,7 @@ fn try_door(rt: &HostRuntime, door: &mut ScriptDoor) -> Result<(), Fail> {
 
 #[test]
 fn a_door_plays_its_script(rt: HostRuntime) -> Result<(), Fail> {
-    let mut door = scripted_door(rt.alloc(), Vec::new(rt.alloc()))?;
+    let mut door = scripted_door(rt.alloc(), &[])?;
     let tried = try_door(&rt, &mut door);
     drop(door);
     tried
@@ -275,7 +242,7 @@ fn try_failing_close(rt: &HostRuntime, door: &mut ScriptDoor) -> Result<(), Fail
 
 #[test]
 fn a_close_that_fails_closes(rt: HostRuntime) -> Result<(), Fail> {
-    let mut door = scripted_door(rt.alloc(), one_failure(rt.alloc(), Failure::Once(2))?)?;
+    let mut door = scripted_door(rt.alloc(), &[Failure::Once(2)])?;
     let tried = try_failing_close(&rt, &mut door);
     drop(door);
     tried

@@ -1,5 +1,6 @@
 //! A system whose processes end strangely, and which refuses what the real one can't be made to refuse.
-use crate::orders::{order_in, same, who};
+use crate::edge::orders::{order_in, who};
+use crate::stage::same;
 use std::alloc::Allocator;
 use std::cell::Cell;
 use std::io;

@@ -1,5 +1,6 @@
 //! Real children.
-use crate::orders::{order_in, path_of, same, shell, who};
+use crate::edge::orders::{order_in, path_of, shell, who};
+use crate::stage::same;
 use std::alloc::Global;
 use std::io::ErrorKind;
 use std::test::Fail;

@@ -1,6 +1,7 @@
 //! A daemon over real children and a real socket.
 use crate::blinking::Blinking;
-use crate::orders::{path_of, same};
+use crate::edge::orders::path_of;
+use crate::stage::{add_job, compiled, same};
 use mio::net::UnixStream;
 use std::alloc::Global;
 use std::fs::remove_file;
@@ -10,8 +11,8 @@ use up_conf::Folder;
 use up_daemon::Daemon;
 use up_edge::{RealHost, ScriptSource, UnixDoor};
 use up_engine::Engine;
-use up_image::{Table, compile};
-use up_text::{Env, Items, Text};
+use up_image::Table;
+use up_text::Env;
 
 /// The most rounds in which both clients are to be answered.
 const MOST_ROUNDS: u32 = 20_000_000;
@@ -45,9 +46,7 @@ struct Client {
 
 fn add_task(alloc: Global, folder: &mut Folder, path: &str, line: &str) -> Result<(), Fail> {
     let file = format!(in alloc; "task\nscript\n{line}\nend script\n")?;
-    let path = Text::from_str(alloc, path)?;
-    folder.add(path, Items::new(file.into_bytes()))?;
-    Ok(())
+    add_job(alloc, folder, path, file.as_str())
 }
 
 // One task waits for a file, and the other makes it.
@@ -56,12 +55,6 @@ fn add_tasks(alloc: Global, folder: &mut Folder, file: &str) -> Result<(), Fail>
     add_task(alloc, folder, "w.conf", waits.as_str())?;
     let makes = format!(in alloc; ": > {file}")?;
     add_task(alloc, folder, "m.conf", makes.as_str())
-}
-
-fn compiled(alloc: Global, folder: &Folder) -> Result<Table, Fail> {
-    let (table, report) = compile(alloc, folder)?;
-    drop(report);
-    Ok(table)
 }
 
 // Like hosts and doors below, the folder is dropped by a call: the prover would go through each field of what a scope drops.
