@@ -1,14 +1,21 @@
-//! The tests of the daemon's rounds, over its public interface: hosts, doors and sources that play scripts, and that fail.
+//! The tests of `up_edge` and of the daemon's rounds, over their public interfaces: real children and sockets; hosts, doors and sources that play
+//! scripts, and that fail.
 #![tactic(auto)]
 
 #[cfg(test)]
 mod beginning;
 #[cfg(test)]
+mod blinking;
+#[cfg(test)]
 mod clients;
 #[cfg(test)]
 mod doors;
 #[cfg(test)]
+mod edge;
+#[cfg(test)]
 mod hosts;
+#[cfg(test)]
+mod init;
 #[cfg(test)]
 mod leaving;
 #[cfg(test)]

@@ -17,14 +17,21 @@ const ON_GO: &str = "start on go\nexec /bin/d\n";
 /// The end of a process.
 pub(crate) type End = (Who, Process, How);
 
-fn add_job(alloc: Global, folder: &mut Folder, file: &str) -> Result<(), Fail> {
-    let path = Text::from_str(alloc, "a.conf")?;
+/// Adds a job file.
+pub(crate) fn add_job(
+    alloc: Global,
+    folder: &mut Folder,
+    path: &str,
+    file: &str,
+) -> Result<(), Fail> {
+    let path = Text::from_str(alloc, path)?;
     let bytes = Vec::from_slice(alloc, file.as_bytes())?;
     folder.add(path, Items::new(bytes))?;
     Ok(())
 }
 
-fn compiled(alloc: Global, folder: &Folder) -> Result<Table, Fail> {
+/// The table of a folder.
+pub(crate) fn compiled(alloc: Global, folder: &Folder) -> Result<Table, Fail> {
     let (table, report) = compile(alloc, folder)?;
     drop(report);
     Ok(table)
@@ -34,7 +41,7 @@ fn compiled(alloc: Global, folder: &Folder) -> Result<Table, Fail> {
 // each field of what a scope drops.
 pub(crate) fn table_of(alloc: Global, file: &str) -> Result<Table, Fail> {
     let mut folder = Folder::new(alloc);
-    let table = match add_job(alloc, &mut folder, file) {
+    let table = match add_job(alloc, &mut folder, "a.conf", file) {
         Ok(()) => compiled(alloc, &folder),
         Err(fail) => Err(fail),
     };

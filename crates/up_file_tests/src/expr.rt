@@ -486,6 +486,6 @@ fn check_faults(alloc: Global, faults: &[(ExprFault, u8, &'static str)]) -> Resu
 }
 
 #[test]
-fn faults(rt: HostRuntime) -> Result<(), Fail> {
+fn faults_of_expressions(rt: HostRuntime) -> Result<(), Fail> {
     check_faults(rt.alloc(), FAULTS)
 }

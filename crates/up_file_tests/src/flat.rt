@@ -1,12 +1,14 @@
-//! Expressions that are made by hand, and their nodes.
+//! The nodes of expressions: of some that are made by hand, and of a file's.
 ghost use Rattle.std.specs.Prelude.{◌≡◌, IfOk};
 ghost use Rattle.up_expr.specs.Flat.{size};
 ghost use Rattle.up_expr.specs.Trees.{tree_of};
 
 use crate::expr::is_written;
+use crate::images::folders::table_of;
 use std::alloc::{AllocError, Global};
 use std::test::Fail;
 use up_expr::{Builder, Condition, Expr, Leaf, Node, Nodes, flatten};
+use up_image::Table;
 use up_text::{Items, Name};
 
 fn leaf_of(alloc: Global, event: &str) -> Result<Leaf, Fail> {
@@ -143,5 +145,40 @@ fn a_condition_is_built(rt: HostRuntime) -> Result<(), Fail> {
     assert!(rt; !joins_one(rt.alloc())?);
     assert!(rt; is_built(rt.alloc(), false, EITHER, "(b or c)")?);
     assert!(rt; is_built(rt.alloc(), true, BOTH, "(b and c)")?);
+    Ok(())
+}
+
+const FILES: &'static [(&'static str, &'static [u8])] = &[(
+    "a.conf",
+    b"start on (A and B) or (C and D)\nexec x\n",
+)];
+
+const IN_POST_ORDER: &'static [Said] = &[
+    Said::Leaf("A"),
+    Said::Leaf("B"),
+    Said::And(0, 1),
+    Said::Leaf("C"),
+    Said::Leaf("D"),
+    Said::And(3, 4),
+    Said::Or(2, 5),
+];
+
+// Whether there is one job, with a condition whose nodes are these.
+fn starts_on(table: &Table, said: &[Said]) -> bool {
+    if table.len() != 1 {
+        return false;
+    }
+    match &table.job(0).start_on {
+        Some(condition) => are_said(condition.nodes(), said),
+        None => false,
+    }
+}
+
+#[test]
+fn nodes_stand_in_post_order(rt: HostRuntime) -> Result<(), Fail> {
+    let table = table_of(rt.alloc(), FILES)?;
+    let starts = starts_on(&table, IN_POST_ORDER);
+    drop(table);
+    assert!(rt; starts);
     Ok(())
 }

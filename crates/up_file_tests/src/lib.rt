@@ -1,17 +1,21 @@
 //! The tests of the libraries that say what job files mean, over their public interfaces: `up_value`, `up_pattern`, `up_text`, `up_expr`,
-//! `up_stanza`, `up_conf`, `up_advice`, `up_image`, and the types of `up_model`.
+//! `up_stanza`, `up_conf`, `up_advice`, `up_image`, and the types of `up_model`; and of `up_event`, `up_marks` and the instances of `up_job`.
 #![tactic(auto)]
 
 #[cfg(test)]
 mod advice;
 #[cfg(test)]
+mod compile;
+#[cfg(test)]
 mod conf;
+#[cfg(test)]
+mod events;
 #[cfg(test)]
 mod expr;
 #[cfg(test)]
 mod flat;
 #[cfg(test)]
-mod image;
+mod images;
 #[cfg(test)]
 mod model;
 #[cfg(test)]

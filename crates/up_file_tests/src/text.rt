@@ -249,6 +249,6 @@ fn check_faults(alloc: Global, faults: &[(TextFault, u8, &'static str)]) -> Resu
 }
 
 #[test]
-fn faults(rt: HostRuntime) -> Result<(), Fail> {
+fn faults_of_texts(rt: HostRuntime) -> Result<(), Fail> {
     check_faults(rt.alloc(), FAULTS)
 }

@@ -1,0 +1,228 @@
+//! A daemon over real children and a real socket.
+use crate::blinking::Blinking;
+use crate::edge::orders::path_of;
+use crate::stage::{add_job, compiled, same};
+use mio::net::UnixStream;
+use std::alloc::Global;
+use std::fs::remove_file;
+use std::io::{ErrorKind, Read, Write};
+use std::test::Fail;
+use up_conf::Folder;
+use up_daemon::Daemon;
+use up_edge::{RealHost, ScriptSource, UnixDoor};
+use up_engine::Engine;
+use up_image::Table;
+use up_text::Env;
+
+/// The most rounds in which both clients are to be answered.
+const MOST_ROUNDS: u32 = 20_000_000;
+
+/// The rounds before the second client comes.
+const FIRST_ROUNDS: u32 = 100;
+
+const START_W: &[u8] = b"\0\0\0\x07\x01\0\0\x01w\0\0";
+
+const START_M: &[u8] = b"\0\0\0\x07\x01\0\0\x01m\0\0";
+
+const STOPPED_W: &[u8] = b"\0\0\0\x0f\0w stop/waiting";
+
+const STOPPED_M: &[u8] = b"\0\0\0\x0f\0m stop/waiting";
+
+/// A daemon with its host, its door and its source.
+#[derive(Drop)]
+struct Init {
+    daemon: Daemon,
+    host: RealHost<Blinking>,
+    door: UnixDoor,
+    source: ScriptSource,
+}
+
+// A client, and what it has read.
+#[derive(Drop)]
+struct Client {
+    stream: UnixStream,
+    answer: Vec<u8>,
+}
+
+fn add_task(alloc: Global, folder: &mut Folder, path: &str, line: &str) -> Result<(), Fail> {
+    let file = format!(in alloc; "task\nscript\n{line}\nend script\n")?;
+    add_job(alloc, folder, path, file.as_str())
+}
+
+// One task waits for a file, and the other makes it.
+fn add_tasks(alloc: Global, folder: &mut Folder, file: &str) -> Result<(), Fail> {
+    let waits = format!(in alloc; "until [ -e {file} ]; do /bin/sleep 0.01; done")?;
+    add_task(alloc, folder, "w.conf", waits.as_str())?;
+    let makes = format!(in alloc; ": > {file}")?;
+    add_task(alloc, folder, "m.conf", makes.as_str())
+}
+
+// Like hosts and doors below, the folder is dropped by a call: the prover would go through each field of what a scope drops.
+fn table_of(alloc: Global, file: &str) -> Result<Table, Fail> {
+    let mut folder = Folder::new(alloc);
+    let table = match add_tasks(alloc, &mut folder, file) {
+        Ok(()) => compiled(alloc, &folder),
+        Err(fail) => Err(fail),
+    };
+    drop(folder);
+    table
+}
+
+fn daemon_of(alloc: Global, file: &str) -> Result<Daemon, Fail> {
+    let table = table_of(alloc, file)?;
+    let engine = Engine::new(alloc, table, Env::new(alloc))?;
+    Ok(Daemon::new(alloc, engine))
+}
+
+// A host of which the first look at each process may fail.
+fn host_of(rt: &HostRuntime, blinks: bool) -> Result<RealHost<Blinking>, Fail> {
+    let system = rt.clone()?;
+    Ok(RealHost::new(rt.alloc(), Blinking { system, blinks })?)
+}
+
+fn door_of(rt: &HostRuntime, socket: &str) -> Result<UnixDoor, Fail> {
+    Ok(UnixDoor::bind(rt, rt.alloc(), socket)?)
+}
+
+// A daemon over this host and this door.
+fn init_over(
+    alloc: Global,
+    file: &str,
+    host: RealHost<Blinking>,
+    door: UnixDoor,
+) -> Result<Init, Fail> {
+    match daemon_of(alloc, file) {
+        Ok(daemon) => Ok(Init {
+            daemon,
+            host,
+            door,
+            source: ScriptSource::new(alloc, Vec::new(alloc)),
+        }),
+        Err(fail) => {
+            drop(host);
+            drop(door);
+            Err(fail)
+        }
+    }
+}
+
+fn init_of(rt: &HostRuntime, socket: &str, file: &str, blinks: bool) -> Result<Init, Fail> {
+    let host = host_of(rt, blinks)?;
+    match door_of(rt, socket) {
+        Ok(door) => init_over(rt.alloc(), file, host, door),
+        Err(fail) => {
+            drop(host);
+            Err(fail)
+        }
+    }
+}
+
+fn client_of(rt: &HostRuntime, socket: &str, request: &[u8]) -> Result<Client, Fail> {
+    let mut stream = UnixStream::connect(rt, socket)?;
+    stream.write_all(request)?;
+    Ok(Client {
+        stream,
+        answer: Vec::new(rt.alloc()),
+    })
+}
+
+// Reads what has come.
+fn hear(client: &mut Client) -> Result<(), Fail> {
+    let mut buffer = [0u8; 64];
+    match client.stream.read(&mut buffer) {
+        Ok(count) => {
+            client.answer.extend_from_slice(&buffer[..count])?;
+            Ok(())
+        }
+        Err(error) if error.kind() == ErrorKind::WouldBlock => Ok(()),
+        Err(error) => Err(Fail::from(error)),
+    }
+}
+
+fn do_round(init: &mut Init) -> Result<(), Fail> {
+    let round = init
+        .daemon
+        .round(&mut init.host, &mut init.door, &mut init.source)?;
+    drop(round);
+    Ok(())
+}
+
+// Whether both clients are answered after some rounds.
+fn answer_both(init: &mut Init, first: &mut Client, second: &mut Client) -> Result<bool, Fail> {
+    for _ in 0..MOST_ROUNDS {
+        do_round(init)?;
+        hear(first)?;
+        hear(second)?;
+        if first.answer.len() > 0 && second.answer.len() > 0 {
+            return Ok(true);
+        }
+    }
+    Ok(false)
+}
+
+// The second client comes, whose task ends the first one's.
+fn try_second(
+    rt: &HostRuntime,
+    init: &mut Init,
+    socket: &str,
+    first: &mut Client,
+) -> Result<(), Fail> {
+    let mut second = client_of(rt, socket, START_M)?;
+    let answered = answer_both(init, first, &mut second)?;
+    same("both are answered", answered, true)?;
+    same("the first", first.answer.as_slice() == STOPPED_W, true)?;
+    same("the second", second.answer.as_slice() == STOPPED_M, true)
+}
+
+// The first client waits, as its task does.
+fn try_first(
+    rt: &HostRuntime,
+    init: &mut Init,
+    socket: &str,
+    first: &mut Client,
+) -> Result<(), Fail> {
+    for _ in 0..FIRST_ROUNDS {
+        do_round(init)?;
+    }
+    hear(first)?;
+    same("nothing is answered", first.answer.len(), 0)?;
+    try_second(rt, init, socket, first)
+}
+
+fn try_clients(rt: &HostRuntime, init: &mut Init, socket: &str) -> Result<(), Fail> {
+    let mut first = client_of(rt, socket, START_W)?;
+    let tried = try_first(rt, init, socket, &mut first);
+    drop(first);
+    tried
+}
+
+fn try_init(rt: &HostRuntime, socket: &str, file: &str, blinks: bool) -> Result<(), Fail> {
+    let mut init = init_of(rt, socket, file, blinks)?;
+    let tried = try_clients(rt, &mut init, socket);
+    drop(init);
+    tried
+}
+
+// Removes a file, if it is there.
+fn remove(rt: &HostRuntime, path: &str) {
+    let _ = remove_file(rt, path).is_ok();
+}
+
+fn try_at(rt: &HostRuntime, (socket, file): (&str, &str), blinks: bool) -> Result<(), Fail> {
+    let socket = path_of(rt, socket)?;
+    let file = path_of(rt, file)?;
+    let tried = try_init(rt, socket.as_str(), file.as_str(), blinks);
+    remove(rt, socket.as_str());
+    remove(rt, file.as_str());
+    tried
+}
+
+#[test]
+fn a_task_that_waits_for_another_keeps_no_client_waiting(rt: HostRuntime) -> Result<(), Fail> {
+    try_at(&rt, ("init", "made"), false)
+}
+
+#[test]
+fn a_poll_that_fails_keeps_no_client_waiting(rt: HostRuntime) -> Result<(), Fail> {
+    try_at(&rt, ("blinking", "made-blinking"), true)
+}

@@ -1,0 +1,194 @@
+//! Events that are offered to the leaves of one job's `start on`.
+use crate::events::files::files_of;
+use crate::events::queue::event;
+use std::alloc::Global;
+use std::test::Fail;
+use up_expr::Condition;
+use up_image::JobFile;
+use up_marks::{Index, Marks, Offer};
+use up_model::{Event, EventId};
+use up_text::Items;
+
+// A job's stanza, and what becomes of its expression if events of these names, numbered from 1, are offered to it.
+struct Case {
+    name: &'static str,
+    stanza: &'static str,
+    events: &'static [&'static str],
+    // To how many leaves the last one is new, and whether the expression is true then.
+    last: (usize, bool),
+    // The events by which it is true, and then those that it gives up, by the order in which they were offered.
+    taken: &'static [usize],
+    cleared: &'static [usize],
+}
+
+const CASES: &'static [Case] = &[
+    Case {
+        name: "and_of_same_event",
+        stanza: "start on A and A",
+        events: &["A"],
+        last: (2, true),
+        taken: &[1, 1],
+        cleared: &[1, 1],
+    },
+    Case {
+        name: "and_keeps_first",
+        stanza: "start on A and B",
+        events: &["A", "A", "Z", "B"],
+        last: (1, true),
+        taken: &[1, 4],
+        cleared: &[1, 4],
+    },
+    Case {
+        name: "or_after_half_an_and",
+        stanza: "start on (A and D) or B",
+        events: &["A", "B"],
+        last: (1, true),
+        taken: &[2],
+        cleared: &[1, 2],
+    },
+    Case {
+        name: "half_an_and_does_not_hold",
+        stanza: "start on (A or C) and B",
+        events: &["C", "A"],
+        last: (1, false),
+        taken: &[],
+        cleared: &[2, 1],
+    },
+];
+
+// Offers an event to the leaves that name it. Its variables, of which it has none, are the environment too.
+fn offer(
+    alloc: Global,
+    marks: &mut Marks,
+    index: &Index,
+    condition: &Condition,
+    id: EventId,
+    event: &Event,
+) -> Result<Offer, Fail> {
+    if !marks.fits(condition) {
+        return Err(Fail::from("the marks are of another expression"));
+    }
+    let places = index.leaves(&event.name, 0, true);
+    Ok(marks.offer(alloc, condition, places, id, event, &event.vars)?)
+}
+
+fn offer_named(
+    alloc: Global,
+    marks: &mut Marks,
+    index: &Index,
+    condition: &Condition,
+    id: EventId,
+    name: &str,
+) -> Result<Offer, Fail> {
+    let event = event(alloc, name)?;
+    let offer = offer(alloc, marks, index, condition, id, &event);
+    drop(event);
+    offer
+}
+
+// Offers each event; what the last one changed.
+fn offer_each(
+    alloc: Global,
+    marks: &mut Marks,
+    index: &Index,
+    condition: &Condition,
+    names: &[&str],
+) -> Result<Offer, Fail> {
+    let mut last = Offer {
+        kept: 0,
+        holds: false,
+    };
+    for (before, name) in names.iter().enumerate() {
+        let id = EventId {
+            key: before.saturating_add(1),
+        };
+        last = offer_named(alloc, marks, index, condition, id, *name)?;
+    }
+    Ok(last)
+}
+
+fn are_numbered(ids: Items<EventId>, numbers: &[usize]) -> bool {
+    let its = ids.as_slice();
+    if its.len() != numbers.len() {
+        return false;
+    }
+    for at in 0..numbers.len() {
+        if its[at].key != numbers[at] {
+            return false;
+        }
+    }
+    true
+}
+
+// Whether these events are taken, and these given up after that.
+fn is_cleared(
+    alloc: Global,
+    marks: &mut Marks,
+    condition: &Condition,
+    case: &Case,
+) -> Result<bool, Fail> {
+    if !marks.fits(condition) {
+        return Err(Fail::from("the marks are of another expression"));
+    }
+    let taken = are_numbered(marks.taken(alloc, condition)?, case.taken);
+    let cleared = are_numbered(marks.clear(alloc)?, case.cleared);
+    Ok(taken && cleared && !marks.holds())
+}
+
+fn leaves(
+    alloc: Global,
+    marks: &mut Marks,
+    index: &Index,
+    condition: &Condition,
+    case: &Case,
+) -> Result<bool, Fail> {
+    let last = offer_each(alloc, marks, index, condition, case.events)?;
+    let cleared = is_cleared(alloc, marks, condition, case)?;
+    Ok(cleared && last.kept == case.last.0 && last.holds == case.last.1)
+}
+
+fn try_condition(
+    alloc: Global,
+    index: &Index,
+    condition: &Condition,
+    case: &Case,
+) -> Result<bool, Fail> {
+    let mut marks = Marks::new(alloc, condition)?;
+    let leaves = leaves(alloc, &mut marks, index, condition, case);
+    drop(marks);
+    leaves
+}
+
+fn try_files(alloc: Global, files: &[JobFile], case: &Case) -> Result<bool, Fail> {
+    let [file] = files else {
+        return Err(Fail::from("there isn't one job"));
+    };
+    let Some(condition) = &file.job().start_on else {
+        return Err(Fail::from("there is no expression"));
+    };
+    let index = Index::of(alloc, files)?;
+    let tried = try_condition(alloc, &index, condition, case);
+    drop(index);
+    tried
+}
+
+fn holds(alloc: Global, case: &Case) -> Result<bool, Fail> {
+    let files = files_of(alloc, &[case.stanza])?;
+    let tried = try_files(alloc, files.as_slice(), case);
+    drop(files);
+    tried
+}
+
+fn check(alloc: Global, cases: &[Case]) -> Result<(), Fail> {
+    for case in cases {
+        if !holds(alloc, case)? {
+            return Err(Fail::from(case.name));
+        }
+    }
+    Ok(())
+}
+
+#[test]
+fn events_are_kept_and_taken(rt: HostRuntime) -> Result<(), Fail> {
+    check(rt.alloc(), CASES)
+}

@@ -1,0 +1,55 @@
+//! Which events may match the `stop on` of a file.
+use crate::events::files::files_of;
+use crate::events::queue::event;
+use std::alloc::Global;
+use std::test::Fail;
+use up_image::JobFile;
+use up_marks::{may_stop, stop_leaves};
+use up_model::Event;
+
+// A job's stanza, an event, how many leaves name the event, and whether it may match.
+type Case = (&'static str, &'static str, usize, bool);
+
+const CASES: &'static [Case] = &[
+    ("stop on b X=1 or (c and b)", "b", 2, true),
+    ("stop on b X=1 or (c and b)", "a", 0, false),
+    // A literal value rules an event out.
+    ("stop on b X=1", "b", 1, false),
+];
+
+fn is_heard(files: &[JobFile], event: &Event, case: &Case) -> bool {
+    match files.first() {
+        Some(file) => {
+            stop_leaves(file, &event.name).len() == case.2 && may_stop(file, event) == case.3
+        }
+        None => false,
+    }
+}
+
+fn hears(alloc: Global, event: &Event, case: &Case) -> Result<bool, Fail> {
+    let files = files_of(alloc, &[case.0])?;
+    let heard = is_heard(files.as_slice(), event, case);
+    drop(files);
+    Ok(heard)
+}
+
+fn holds(alloc: Global, case: &Case) -> Result<bool, Fail> {
+    let event = event(alloc, case.1)?;
+    let hears = hears(alloc, &event, case);
+    drop(event);
+    hears
+}
+
+fn check(alloc: Global, cases: &[Case]) -> Result<(), Fail> {
+    for case in cases {
+        if !holds(alloc, case)? {
+            return Err(Fail::from(case.0));
+        }
+    }
+    Ok(())
+}
+
+#[test]
+fn leaves_are_found_by_name(rt: HostRuntime) -> Result<(), Fail> {
+    check(rt.alloc(), CASES)
+}
