@@ -6,7 +6,7 @@ use up_edge::{Door, Failure, Passed, ScriptDoor, ScriptHost, Visitor};
 use up_text::Items;
 
 /// The request `reload database`, which is refused at once: there is no such job.
-const RELOAD: [u8; 18] = [
+const RELOAD: &'static [u8] = &[
     0, 0, 0, 14, 7, 0, 0, 8, 100, 97, 116, 97, 98, 97, 115, 101, 0, 0,
 ];
 
@@ -14,7 +14,7 @@ const RELOAD: [u8; 18] = [
 const ANSWERED: usize = 26;
 
 /// The request `reload-configuration`.
-pub(crate) const RELOAD_ALL: [u8; 10] = [0, 0, 0, 6, 8, 0, 0, 0, 0, 0];
+pub(crate) const RELOAD_ALL: &'static [u8] = &[0, 0, 0, 6, 8, 0, 0, 0, 0, 0];
 
 /// What a client does at one read.
 #[derive(Clone, Copy)]
@@ -68,7 +68,7 @@ pub(crate) fn push_client(
 
 /// The request of a client.
 pub(crate) fn asks<'a>() -> Said<'a> {
-    Said::Bytes(&RELOAD)
+    Said::Bytes(RELOAD)
 }
 
 /// What a door's record tells: clients that came, bytes that were written, and clients that were closed.
@@ -168,7 +168,7 @@ struct Case {
 static CASES: [Case; 6] = [
     Case {
         name: "a request is answered in its round",
-        says: &[Said::Bytes(&RELOAD)],
+        says: &[Said::Bytes(RELOAD)],
         takes: &[],
         expected: &[(1, ANSWERED, 0), (0, 0, 0)],
     },
@@ -196,13 +196,13 @@ static CASES: [Case; 6] = [
     },
     Case {
         name: "bytes wait for a client that does not read",
-        says: &[Said::Bytes(&RELOAD)],
+        says: &[Said::Bytes(RELOAD)],
         takes: &[0, 0, 20],
         expected: &[(1, 0, 0), (0, 0, 0), (0, 20, 0), (0, 6, 0), (0, 0, 0)],
     },
     Case {
         name: "a client that goes while bytes wait loses them",
-        says: &[Said::Bytes(&RELOAD), Said::Bytes(&[])],
+        says: &[Said::Bytes(RELOAD), Said::Bytes(&[])],
         takes: &[0],
         expected: &[(1, 0, 0), (0, 0, 1), (0, 0, 0)],
     },

@@ -11,21 +11,21 @@ use up_model::Process;
 const PREPARED: &str = "start on go\nexec /bin/d\npre-start exec /bin/p\n";
 
 /// The request `start a`, whose client waits for the answer.
-const START: [u8; 11] = [0, 0, 0, 7, 1, 0, 0, 1, 97, 0, 0];
+const START: &'static [u8] = &[0, 0, 0, 7, 1, 0, 0, 1, 97, 0, 0];
 
 /// The request `status a`.
-const STATUS: [u8; 11] = [0, 0, 0, 7, 4, 0, 0, 1, 97, 0, 0];
+const STATUS: &'static [u8] = &[0, 0, 0, 7, 4, 0, 0, 1, 97, 0, 0];
 
 /// The frame of its answer.
 const RUNNING: &[u8] = b"\0\0\0\x1d\0a start/running, process 100";
 
 // The first client comes in the first round, and the second in the fourth.
 fn push_two(alloc: Global, visits: &mut Vec<Option<Visitor>>) -> Result<(), AllocError> {
-    push_client(alloc, visits, &[Said::Bytes(&START)], &[])?;
+    push_client(alloc, visits, &[Said::Bytes(START)], &[])?;
     for _ in 0..3u32 {
         visits.push(None)?;
     }
-    push_client(alloc, visits, &[Said::Bytes(&STATUS)], &[])
+    push_client(alloc, visits, &[Said::Bytes(STATUS)], &[])
 }
 
 // The calls of the first round are two accepts and a read; then come an accept and the read that fails.

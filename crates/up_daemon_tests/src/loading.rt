@@ -81,7 +81,7 @@ fn loads_of(alloc: Global, case: &Case) -> Result<Vec<Option<Loaded>>, Fail> {
 
 fn scene_of(alloc: Global, case: &Case) -> Result<Scene, Fail> {
     let loads = loads_of(alloc, case)?;
-    let door = one_client(alloc, &[Said::Bytes(&RELOAD_ALL)], &[]);
+    let door = one_client(alloc, &[Said::Bytes(RELOAD_ALL)], &[]);
     match make_scene(alloc, one_process(alloc), door) {
         Ok(scene) => Ok(with_loads(alloc, scene, loads)),
         Err(fail) => {

@@ -7,7 +7,7 @@ use std::test::Fail;
 use up_edge::{Door, Passed, ScriptDoor};
 
 /// The request `stop a`, whose client waits for the answer.
-const STOP: [u8; 11] = [0, 0, 0, 7, 2, 0, 0, 1, 97, 0, 0];
+const STOP: &'static [u8] = &[0, 0, 0, 7, 2, 0, 0, 1, 97, 0, 0];
 
 /// The frame of its answer.
 const STOPPED: &[u8] = b"\0\0\0\x0f\0a stop/waiting";
@@ -38,7 +38,7 @@ fn check_rounds(scene: &mut Scene) -> Result<(), Fail> {
 
 // Three polls find nothing, and the fourth finds the end.
 fn try_waiting(alloc: Global) -> Result<(), Fail> {
-    let door = one_client(alloc, &[Said::Nothing, Said::Bytes(&STOP)], &[]);
+    let door = one_client(alloc, &[Said::Nothing, Said::Bytes(STOP)], &[]);
     let mut scene = make_scene(alloc, late_host(alloc, 3, &[]), door)?;
     let tried = check_rounds(&mut scene);
     drop(scene);

@@ -94,13 +94,13 @@ pub(crate) const SPAWN_D: &'static str =
 
 pub(crate) const START_FILE: &'static str = "start on startup\nexec /bin/true x\n";
 
-const EMPTY_FOLDER: [Row; 3] = [
+const EMPTY_FOLDER: &'static [Row] = &[
     (Given::Emit("startup"), "", 1, true),
     (Given::Turn, "", 1, true),
     (Given::Turn, "", 0, false),
 ];
 
-pub(crate) const STARTUP: [Row; 8] = [
+pub(crate) const STARTUP: &'static [Row] = &[
     (Given::Emit("startup"), "", 1, true),
     (Given::Turn, STARTING, 2, true),
     (Given::Turn, "", 2, true),
@@ -111,7 +111,7 @@ pub(crate) const STARTUP: [Row; 8] = [
     (Given::Turn, "", 0, false),
 ];
 
-const STOP_AND_START: [Row; 15] = [
+const STOP_AND_START: &'static [Row] = &[
     (Given::Emit("go"), "", 1, true),
     (Given::Turn, STARTING, 2, true),
     (Given::Turn, "", 2, true),
@@ -130,7 +130,7 @@ const STOP_AND_START: [Row; 15] = [
 ];
 
 // After the stranger's end the steps are those of `STARTUP`.
-const STRANGER: [Row; 9] = [
+const STRANGER: &'static [Row] = &[
     (Given::Ended(How::Exit(0)), "40 NotExpected", 0, false),
     (Given::Emit("startup"), "", 1, true),
     (Given::Turn, STARTING, 2, true),
@@ -143,7 +143,7 @@ const STRANGER: [Row; 9] = [
 ];
 
 // After the failure what started the job is spoilt, which is told when it finishes.
-pub(crate) const REQUESTS: [Row; 14] = [
+pub(crate) const REQUESTS: &'static [Row] = &[
     (
         Given::Start(7),
         "reply 7 ok=false Unknown job: zz; ",
@@ -180,31 +180,31 @@ static CASES: [Case; 5] = [
         name: "empty_folder",
         files: &[],
         base: &[],
-        rows: &EMPTY_FOLDER,
+        rows: EMPTY_FOLDER,
     },
     Case {
         name: "startup",
         files: &[("a.conf", START_FILE)],
         base: &[],
-        rows: &STARTUP,
+        rows: STARTUP,
     },
     Case {
         name: "stop_and_start_on_same_event",
         files: &[("a.conf", "start on go\nstop on go\nexec /bin/d\n")],
         base: &[],
-        rows: &STOP_AND_START,
+        rows: STOP_AND_START,
     },
     Case {
         name: "end_of_a_stranger",
         files: &[("a.conf", START_FILE)],
         base: &[],
-        rows: &STRANGER,
+        rows: STRANGER,
     },
     Case {
         name: "requests_clocks_and_refusals",
         files: &[("a.conf", START_FILE)],
         base: &[],
-        rows: &REQUESTS,
+        rows: REQUESTS,
     },
 ];
 

@@ -3,7 +3,7 @@ use crate::engine::{Case, Given, Row, STARTED, STARTING, STOPPING, check_cases};
 use std::test::Fail;
 
 // A value of `start on` expands by the base environment.
-const VALUE_BY_BASE: [Row; 7] = [
+const VALUE_BY_BASE: &'static [Row] = &[
     (Given::EmitWith("go", "X", "2"), "", 1, true),
     (Given::Turn, "", 1, true),
     (Given::Turn, "", 0, false),
@@ -19,7 +19,7 @@ const VALUE_BY_BASE: [Row; 7] = [
 ];
 
 // A variable of the event stands in the place of the base's.
-const EVENT_OVERRIDES_BASE: [Row; 4] = [
+const EVENT_OVERRIDES_BASE: &'static [Row] = &[
     (Given::EmitWith("go", "PATH", "/sbin"), "", 1, true),
     (Given::Turn, STARTING, 2, true),
     (Given::Turn, "", 2, true),
@@ -31,7 +31,7 @@ const EVENT_OVERRIDES_BASE: [Row; 4] = [
     ),
 ];
 
-const LATER_EVENT_OVERRIDES: [Row; 6] = [
+const LATER_EVENT_OVERRIDES: &'static [Row] = &[
     (Given::EmitWith("A", "Y", "1"), "", 1, true),
     (Given::Turn, "", 1, false),
     (Given::EmitWith("B", "Y", "2"), "", 2, true),
@@ -49,7 +49,7 @@ const SPAWN_WITH_Y: &'static str =
     "spawn a() Main [/bin/d ] in / silent=false Y=1 UPSTART_EVENTS=go UPSTART_JOB=a UPSTART_INSTANCE=; ";
 
 // A value of `stop on` expands by the environment in force, which has the variables of the event that started the job.
-const STOP_BY_ENVIRONMENT_IN_FORCE: [Row; 11] = [
+const STOP_BY_ENVIRONMENT_IN_FORCE: &'static [Row] = &[
     (Given::EmitWith("go", "Y", "1"), "", 1, true),
     (Given::Turn, STARTING, 2, true),
     (Given::Turn, "", 2, true),
@@ -63,7 +63,7 @@ const STOP_BY_ENVIRONMENT_IN_FORCE: [Row; 11] = [
     (Given::Turn, "", 0, false),
 ];
 
-const STOPPED_BY_VALUE: [Row; 11] = [
+const STOPPED_BY_VALUE: &'static [Row] = &[
     (Given::EmitWith("go", "Y", "1"), "", 1, true),
     (Given::Turn, STARTING, 2, true),
     (Given::Turn, "", 2, true),
@@ -82,31 +82,31 @@ static CASES: [Case; 5] = [
         name: "value_by_base",
         files: &[("a.conf", "start on go X=$X\nexec /bin/d\n")],
         base: &[("PATH", "/bin"), ("X", "1")],
-        rows: &VALUE_BY_BASE,
+        rows: VALUE_BY_BASE,
     },
     Case {
         name: "event_overrides_base",
         files: &[("a.conf", "start on go\nexec /bin/d\n")],
         base: &[("PATH", "/bin"), ("X", "1")],
-        rows: &EVENT_OVERRIDES_BASE,
+        rows: EVENT_OVERRIDES_BASE,
     },
     Case {
         name: "later_event_overrides",
         files: &[("a.conf", "start on A and B\nexec /bin/d\n")],
         base: &[],
-        rows: &LATER_EVENT_OVERRIDES,
+        rows: LATER_EVENT_OVERRIDES,
     },
     Case {
         name: "stop_by_environment_in_force, by another value",
         files: &[("a.conf", "start on go\nstop on halt Y=$Y\nexec /bin/d\n")],
         base: &[],
-        rows: &STOP_BY_ENVIRONMENT_IN_FORCE,
+        rows: STOP_BY_ENVIRONMENT_IN_FORCE,
     },
     Case {
         name: "stop_by_environment_in_force",
         files: &[("a.conf", "start on go\nstop on halt Y=$Y\nexec /bin/d\n")],
         base: &[("Y", "2")],
-        rows: &STOPPED_BY_VALUE,
+        rows: STOPPED_BY_VALUE,
     },
 ];
 

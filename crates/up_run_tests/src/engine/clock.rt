@@ -6,7 +6,7 @@ use up_model::How;
 const STOPPED: &'static str = "stopped JOB=a INSTANCE= RESULT=ok; ";
 
 // The clock doesn't go back, and the timer kills once. What stops the job is held until it has stopped.
-const KILL_TIMEOUT: [Row; 18] = [
+const KILL_TIMEOUT: &'static [Row] = &[
     (Given::Emit("go"), "", 1, true),
     (Given::Turn, STARTING, 2, true),
     (Given::Turn, "", 2, true),
@@ -28,7 +28,7 @@ const KILL_TIMEOUT: [Row; 18] = [
 ];
 
 // The job's own signal; the clock may read the greatest number.
-const KILL_SIGNAL: [Row; 13] = [
+const KILL_SIGNAL: &'static [Row] = &[
     (Given::Emit("go"), "", 1, true),
     (Given::Turn, STARTING, 2, true),
     (Given::Turn, "", 2, true),
@@ -49,7 +49,7 @@ const KILL_SIGNAL: [Row; 13] = [
     ),
 ];
 
-const NORMAL_EXIT: [Row; 11] = [
+const NORMAL_EXIT: &'static [Row] = &[
     (Given::Emit("go"), "", 1, true),
     (Given::Turn, STARTING, 2, true),
     (Given::Turn, "", 2, true),
@@ -64,7 +64,7 @@ const NORMAL_EXIT: [Row; 11] = [
 ];
 
 // The third end within five seconds is one too many.
-pub(crate) const RESPAWN_LIMIT: [Row; 28] = [
+pub(crate) const RESPAWN_LIMIT: &'static [Row] = &[
     (Given::Emit("go"), "", 1, true),
     (Given::Turn, STARTING, 2, true),
     (Given::Turn, "", 2, true),
@@ -101,7 +101,7 @@ pub(crate) const RESPAWN_LIMIT: [Row; 28] = [
 ];
 
 // After five seconds the first respawn counts no longer; 999 milliseconds later the second still does.
-const RESPAWN_LIMIT_SLIDES: [Row; 37] = [
+const RESPAWN_LIMIT_SLIDES: &'static [Row] = &[
     (Given::Emit("go"), "", 1, true),
     (Given::Turn, STARTING, 2, true),
     (Given::Turn, "", 2, true),
@@ -147,7 +147,7 @@ const RESPAWN_LIMIT_SLIDES: [Row; 37] = [
 ];
 
 // A task isn't respawned once it has succeeded.
-const TASK_THAT_SUCCEEDS: [Row; 6] = [
+const TASK_THAT_SUCCEEDS: &'static [Row] = &[
     (Given::Emit("go"), "", 1, true),
     (Given::Turn, STARTING, 2, true),
     (Given::Turn, "", 2, true),
@@ -161,7 +161,7 @@ static CASES: [Case; 6] = [
         name: "kill_timeout",
         files: &[("a.conf", "start on go\nstop on halt\nexec /bin/d\n")],
         base: &[],
-        rows: &KILL_TIMEOUT,
+        rows: KILL_TIMEOUT,
     },
     Case {
         name: "kill_signal",
@@ -170,7 +170,7 @@ static CASES: [Case; 6] = [
             "start on go\nstop on halt\nexec /bin/d\nkill signal INT\nkill timeout 2147483647\n",
         )],
         base: &[],
-        rows: &KILL_SIGNAL,
+        rows: KILL_SIGNAL,
     },
     Case {
         name: "normal_exit",
@@ -179,7 +179,7 @@ static CASES: [Case; 6] = [
             "start on go\nexec /bin/d\nrespawn\nnormal exit 3\n",
         )],
         base: &[],
-        rows: &NORMAL_EXIT,
+        rows: NORMAL_EXIT,
     },
     Case {
         name: "sliding_respawn_limit",
@@ -188,7 +188,7 @@ static CASES: [Case; 6] = [
             "start on go\nexec /bin/d\nrespawn\nrespawn limit 2 5\n",
         )],
         base: &[],
-        rows: &RESPAWN_LIMIT,
+        rows: RESPAWN_LIMIT,
     },
     Case {
         name: "sliding_respawn_limit, later",
@@ -197,13 +197,13 @@ static CASES: [Case; 6] = [
             "start on go\nexec /bin/d\nrespawn\nrespawn limit 2 5\n",
         )],
         base: &[],
-        rows: &RESPAWN_LIMIT_SLIDES,
+        rows: RESPAWN_LIMIT_SLIDES,
     },
     Case {
         name: "task_that_succeeds",
         files: &[("a.conf", "start on go\nexec /bin/d\nrespawn\ntask\n")],
         base: &[],
-        rows: &TASK_THAT_SUCCEEDS,
+        rows: TASK_THAT_SUCCEEDS,
     },
 ];
 

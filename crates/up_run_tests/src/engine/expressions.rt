@@ -2,7 +2,7 @@
 use crate::engine::{Case, Given, Row, STARTING, check_cases};
 use std::test::Fail;
 
-const AND_KEEPS_FIRST: [Row; 9] = [
+const AND_KEEPS_FIRST: &'static [Row] = &[
     (Given::EmitWith("A", "X", "1"), "", 1, true),
     (Given::EmitWith("A", "X", "2"), "", 2, true),
     (Given::Emit("B"), "", 3, true),
@@ -19,7 +19,7 @@ const AND_KEEPS_FIRST: [Row; 9] = [
     ),
 ];
 
-const AND_OF_SAME_EVENT: [Row; 4] = [
+const AND_OF_SAME_EVENT: &'static [Row] = &[
     (Given::Emit("A"), "", 1, true),
     (Given::Turn, STARTING, 2, true),
     (Given::Turn, "", 2, true),
@@ -31,7 +31,7 @@ const AND_OF_SAME_EVENT: [Row; 4] = [
     ),
 ];
 
-const OR_AFTER_HALF_AN_AND: [Row; 7] = [
+const OR_AFTER_HALF_AN_AND: &'static [Row] = &[
     (Given::Emit("A"), "", 1, true),
     (Given::Emit("B"), "", 2, true),
     (Given::Turn, "", 2, true),
@@ -46,7 +46,7 @@ const OR_AFTER_HALF_AN_AND: [Row; 7] = [
     ),
 ];
 
-const JOB_BLOCKS_ITSELF: [Row; 9] = [
+const JOB_BLOCKS_ITSELF: &'static [Row] = &[
     (Given::Emit("go"), "", 1, true),
     (Given::Turn, STARTING, 2, true),
     (Given::Turn, "", 2, true),
@@ -59,7 +59,7 @@ const JOB_BLOCKS_ITSELF: [Row; 9] = [
 ];
 
 // A value that is an expansion, of which the base environment has no key.
-const VALUE_BY_DEFAULT: [Row; 5] = [
+const VALUE_BY_DEFAULT: &'static [Row] = &[
     (Given::EmitWith("A", "X", "2"), "", 1, true),
     (Given::Turn, "", 1, true),
     (Given::Turn, "", 0, false),
@@ -68,7 +68,7 @@ const VALUE_BY_DEFAULT: [Row; 5] = [
 ];
 
 // What an order says of where and how its process runs.
-const FOLDER_AND_CONSOLE: [Row; 4] = [
+const FOLDER_AND_CONSOLE: &'static [Row] = &[
     (Given::Emit("go"), "", 1, true),
     (Given::Turn, STARTING, 2, true),
     (Given::Turn, "", 2, true),
@@ -85,19 +85,19 @@ static CASES: [Case; 6] = [
         name: "and_keeps_first",
         files: &[("a.conf", "start on A and B\nexec /bin/d\n")],
         base: &[],
-        rows: &AND_KEEPS_FIRST,
+        rows: AND_KEEPS_FIRST,
     },
     Case {
         name: "and_of_same_event",
         files: &[("a.conf", "start on A and A\nexec /bin/d\n")],
         base: &[],
-        rows: &AND_OF_SAME_EVENT,
+        rows: AND_OF_SAME_EVENT,
     },
     Case {
         name: "or_after_half_an_and",
         files: &[("a.conf", "start on (A and D) or B\nexec /bin/d\n")],
         base: &[],
-        rows: &OR_AFTER_HALF_AN_AND,
+        rows: OR_AFTER_HALF_AN_AND,
     },
     Case {
         name: "job_blocks_itself",
@@ -106,13 +106,13 @@ static CASES: [Case; 6] = [
             "start on go\nstop on starting JOB=a\nexec /bin/d\n",
         )],
         base: &[],
-        rows: &JOB_BLOCKS_ITSELF,
+        rows: JOB_BLOCKS_ITSELF,
     },
     Case {
         name: "value_by_default",
         files: &[("a.conf", "start on A X=${Z-1}\nexec /bin/d\n")],
         base: &[],
-        rows: &VALUE_BY_DEFAULT,
+        rows: VALUE_BY_DEFAULT,
     },
     Case {
         name: "folder_and_console",
@@ -121,7 +121,7 @@ static CASES: [Case; 6] = [
             "start on go\nexec /bin/d\nchdir /tmp\nconsole none\n",
         )],
         base: &[],
-        rows: &FOLDER_AND_CONSOLE,
+        rows: FOLDER_AND_CONSOLE,
     },
 ];
 

@@ -4,7 +4,7 @@ use std::test::Fail;
 use up_model::How;
 
 // An exported key is on each event of the job's life.
-const EXPORTS: [Row; 5] = [
+const EXPORTS: &'static [Row] = &[
     (Given::Emit("go"), "", 1, true),
     (Given::Turn, "starting JOB=a INSTANCE= X=1; ", 2, true),
     (Given::Turn, "", 2, true),
@@ -23,7 +23,7 @@ const EXPORTS: [Row; 5] = [
 ];
 
 // A start that waits for the stop comes into force with the next starting, and its exports with it.
-const EXPORTS_ARE_RENEWED: [Row; 13] = [
+const EXPORTS_ARE_RENEWED: &'static [Row] = &[
     (Given::EmitWith("go", "X", "1"), "", 1, true),
     (Given::Turn, "starting JOB=a INSTANCE= X=1; ", 2, true),
     (Given::Turn, "", 2, true),
@@ -60,7 +60,7 @@ const EXPORTS_ARE_RENEWED: [Row; 13] = [
 ];
 
 // `env KEY` is the value of the base, if it has one.
-const ENV_OF_THE_BASE: [Row; 4] = [
+const ENV_OF_THE_BASE: &'static [Row] = &[
     (Given::Emit("go"), "", 1, true),
     (Given::Turn, STARTING, 2, true),
     (Given::Turn, "", 2, true),
@@ -73,7 +73,7 @@ const ENV_OF_THE_BASE: [Row; 4] = [
 ];
 
 // A value of `start on` expands by the environment of the job.
-const VALUE_BY_JOB: [Row; 5] = [
+const VALUE_BY_JOB: &'static [Row] = &[
     (Given::EmitWith("A", "X", "2"), "", 1, true),
     (Given::Turn, "", 1, true),
     (Given::Turn, "", 0, false),
@@ -82,7 +82,7 @@ const VALUE_BY_JOB: [Row; 5] = [
 ];
 
 // Without its key there is no start, and the event isn't held. Each instance stops by its own value.
-const INSTANCES: [Row; 21] = [
+const INSTANCES: &'static [Row] = &[
     (Given::Emit("go"), "", 1, true),
     (Given::Turn, "", 1, true),
     (Given::Turn, "", 0, false),
@@ -132,7 +132,7 @@ const INSTANCES: [Row; 21] = [
 ];
 
 // One event that stops all instances stops them in byte order of their names.
-const INSTANCES_IN_ORDER: [Row; 18] = [
+const INSTANCES_IN_ORDER: &'static [Row] = &[
     (Given::EmitWith("go", "TTY", "tty1"), "", 1, true),
     (Given::Turn, "starting JOB=a INSTANCE=tty1; ", 2, true),
     (Given::EmitWith("go", "TTY", "tty0"), "", 3, true),
@@ -183,13 +183,13 @@ static CASES: [Case; 6] = [
         name: "exports",
         files: &[("a.conf", "start on go\nexec /bin/d\nenv X=1\nexport X\n")],
         base: &[],
-        rows: &EXPORTS,
+        rows: EXPORTS,
     },
     Case {
         name: "exports_are_renewed",
         files: &[("a.conf", "start on go\nstop on go\nexec /bin/d\nexport X\n")],
         base: &[],
-        rows: &EXPORTS_ARE_RENEWED,
+        rows: EXPORTS_ARE_RENEWED,
     },
     Case {
         name: "env_of_the_base",
@@ -198,13 +198,13 @@ static CASES: [Case; 6] = [
             "start on go\nexec /bin/d\nenv K\nenv L\nenv M=1\n",
         )],
         base: &[("K", "b")],
-        rows: &ENV_OF_THE_BASE,
+        rows: ENV_OF_THE_BASE,
     },
     Case {
         name: "value_by_job",
         files: &[("a.conf", "start on A X=$Z\nexec /bin/d\nenv Z=1\n")],
         base: &[],
-        rows: &VALUE_BY_JOB,
+        rows: VALUE_BY_JOB,
     },
     Case {
         name: "instances",
@@ -213,7 +213,7 @@ static CASES: [Case; 6] = [
             "start on go\nstop on halt TTY=$TTY\ninstance $TTY\nexec /bin/d\n",
         )],
         base: &[],
-        rows: &INSTANCES,
+        rows: INSTANCES,
     },
     Case {
         name: "instances_in_order",
@@ -222,7 +222,7 @@ static CASES: [Case; 6] = [
             "start on go\nstop on down\ninstance $TTY\nexec /bin/d\n",
         )],
         base: &[],
-        rows: &INSTANCES_IN_ORDER,
+        rows: INSTANCES_IN_ORDER,
     },
 ];
 

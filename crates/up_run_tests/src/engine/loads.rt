@@ -9,7 +9,7 @@ use up_model::{Command, How};
 const OTHER: &'static [(&'static str, &'static str)] = &[("b.conf", "start on go\nexec /bin/b\n")];
 
 // A job that was removed goes on, is known while it has an instance, and can't be started.
-const REMOVED: [Row; 17] = [
+const REMOVED: &'static [Row] = &[
     (Given::Emit("go"), "", 1, true),
     (Given::Turn, STARTING, 2, true),
     (Given::Turn, "", 2, true),
@@ -60,7 +60,7 @@ const BOTH: &'static [(&'static str, &'static str)] = &[(
 )];
 
 // What a `start on` had seen is forgotten, though the file is the same.
-const FORGOTTEN: [Row; 7] = [
+const FORGOTTEN: &'static [Row] = &[
     (Given::Emit("A"), "", 1, true),
     (Given::Turn, "", 1, false),
     (Given::Load(1, BOTH), "reply 1 ok=true ; ", 1, true),
@@ -71,7 +71,7 @@ const FORGOTTEN: [Row; 7] = [
 ];
 
 // What isn't loaded changes nothing: after it the steps are those of `startup`.
-const REFUSED: [Row; 6] = [
+const REFUSED: &'static [Row] = &[
     (
         Given::LoadRefused(1, 32),
         "reply 1 ok=false Configuration refused: 32; ",
@@ -104,7 +104,7 @@ const SPAWN_E: &'static str =
     "spawn a() Main [/bin/e ] in / silent=false UPSTART_EVENTS=go UPSTART_JOB=a UPSTART_INSTANCE=; ";
 
 // An instance goes by the file by which it was made until it is over. The next one has the new file.
-const OWN_FILE: [Row; 28] = [
+const OWN_FILE: &'static [Row] = &[
     (Given::Emit("go"), "", 1, true),
     (Given::Turn, STARTING, 2, true),
     (Given::Turn, "", 2, true),
@@ -143,25 +143,25 @@ static CASES: [Case; 4] = [
         name: "a job that was removed",
         files: &[("a.conf", "start on go\nexec /bin/d\n")],
         base: &[],
-        rows: &REMOVED,
+        rows: REMOVED,
     },
     Case {
         name: "a start on that had seen an event",
         files: BOTH,
         base: &[],
-        rows: &FORGOTTEN,
+        rows: FORGOTTEN,
     },
     Case {
         name: "loads that aren't carried out",
         files: &[("a.conf", START_FILE)],
         base: &[],
-        rows: &REFUSED,
+        rows: REFUSED,
     },
     Case {
         name: "an instance with its own file",
         files: &[("a.conf", "start on go\nexec /bin/d\n")],
         base: &[],
-        rows: &OWN_FILE,
+        rows: OWN_FILE,
     },
 ];
 

@@ -14,7 +14,7 @@ use up_model::{How, Input, Step};
 use up_text::Env;
 
 // The job is started by a request only, since the event has no variable by which its instance could be named.
-const INSTANCE_NAMES: [Row; 8] = [
+const INSTANCE_NAMES: &'static [Row] = &[
     (Given::Emit("go"), "", 1, true),
     (Given::Turn, "", 1, true),
     (Given::Turn, "", 0, false),
@@ -45,7 +45,7 @@ const INSTANCE_NAMES: [Row; 8] = [
     ),
 ];
 
-const FAILING_TASK: [Row; 5] = [
+const FAILING_TASK: &'static [Row] = &[
     (Given::StartWith(1, &[]), STARTING, 1, true),
     (Given::Turn, "", 1, true),
     (
@@ -68,13 +68,13 @@ static CASES: [Case; 5] = [
         name: "startup",
         files: &[("a.conf", START_FILE)],
         base: &[],
-        rows: &STARTUP,
+        rows: STARTUP,
     },
     Case {
         name: "refused_main",
         files: &[("a.conf", START_FILE)],
         base: &[],
-        rows: &REQUESTS,
+        rows: REQUESTS,
     },
     Case {
         name: "sliding_respawn_limit",
@@ -83,19 +83,19 @@ static CASES: [Case; 5] = [
             "start on go\nexec /bin/d\nrespawn\nrespawn limit 2 5\n",
         )],
         base: &[],
-        rows: &RESPAWN_LIMIT,
+        rows: RESPAWN_LIMIT,
     },
     Case {
         name: "instance_names",
         files: &[("a.conf", "start on go\ninstance $TTY\nexec /bin/g\n")],
         base: &[],
-        rows: &INSTANCE_NAMES,
+        rows: INSTANCE_NAMES,
     },
     Case {
         name: "failing_task",
         files: &[("a.conf", "task\nexec /bin/t\n")],
         base: &[],
-        rows: &FAILING_TASK,
+        rows: FAILING_TASK,
     },
 ];
 

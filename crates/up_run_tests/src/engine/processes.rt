@@ -23,7 +23,7 @@ const STOPPING_BY_PRE_START: &'static str =
 const STOPPED_BY_PRE_START: &'static str =
     "stopped JOB=a INSTANCE= RESULT=failed PROCESS=pre-start EXIT_STATUS=2; ";
 
-const PRE_STOP_THEN_GOAL_START: [Row; 13] = [
+const PRE_STOP_THEN_GOAL_START: &'static [Row] = &[
     (Given::Emit("go"), "", 1, true),
     (Given::Turn, STARTING, 2, true),
     (Given::Turn, "", 2, true),
@@ -40,7 +40,7 @@ const PRE_STOP_THEN_GOAL_START: [Row; 13] = [
 ];
 
 // After the failure the event that started the job isn't held any more, and is spoilt.
-const PRE_START_FAILS: [Row; 9] = [
+const PRE_START_FAILS: &'static [Row] = &[
     (Given::Emit("go"), "", 1, true),
     (Given::Turn, STARTING, 2, true),
     (Given::Turn, "", 2, true),
@@ -57,7 +57,7 @@ const PRE_START_FAILS: [Row; 9] = [
     (Given::Turn, STOPPED_BY_PRE_START, 2, true),
 ];
 
-const REFUSED_POST_START: [Row; 6] = [
+const REFUSED_POST_START: &'static [Row] = &[
     (Given::Emit("go"), "", 1, true),
     (Given::Turn, STARTING, 2, true),
     (Given::Turn, "", 2, true),
@@ -67,7 +67,7 @@ const REFUSED_POST_START: [Row; 6] = [
 ];
 
 // The failure of post-stop doesn't replace that of pre-start.
-const FIRST_FAILURE: [Row; 11] = [
+const FIRST_FAILURE: &'static [Row] = &[
     (Given::Emit("go"), "", 1, true),
     (Given::Turn, STARTING, 2, true),
     (Given::Turn, "", 2, true),
@@ -91,7 +91,7 @@ const FIRST_FAILURE: [Row; 11] = [
     ),
 ];
 
-const MAIN_IS_KILLED: [Row; 9] = [
+const MAIN_IS_KILLED: &'static [Row] = &[
     (Given::Emit("go"), "", 1, true),
     (Given::Turn, STARTING, 2, true),
     (Given::Turn, "", 2, true),
@@ -109,7 +109,7 @@ const MAIN_IS_KILLED: [Row; 9] = [
 ];
 
 // What isn't awaited is no answer, and what doesn't live has no end, whichever process it is of.
-const STRANGERS: [Row; 6] = [
+const STRANGERS: &'static [Row] = &[
     (
         Given::SpawnedAs(Process::PreStart, 5),
         "40 NotExpected",
@@ -146,7 +146,7 @@ static CASES: [Case; 6] = [
             "start on go\nstop on go\nexec /bin/d\npre-stop exec /bin/p\n",
         )],
         base: &[],
-        rows: &PRE_STOP_THEN_GOAL_START,
+        rows: PRE_STOP_THEN_GOAL_START,
     },
     Case {
         name: "pre_start_fails",
@@ -155,7 +155,7 @@ static CASES: [Case; 6] = [
             "start on go\nexec /bin/d\npre-start exec /bin/p\n",
         )],
         base: &[],
-        rows: &PRE_START_FAILS,
+        rows: PRE_START_FAILS,
     },
     Case {
         name: "pre_start_fails, with post-start refused",
@@ -164,7 +164,7 @@ static CASES: [Case; 6] = [
             "start on go\nexec /bin/d\nrespawn\npost-start exec /bin/w\n",
         )],
         base: &[],
-        rows: &REFUSED_POST_START,
+        rows: REFUSED_POST_START,
     },
     Case {
         name: "first_failure_is_kept",
@@ -173,13 +173,13 @@ static CASES: [Case; 6] = [
             "start on go\nexec /bin/d\npre-start exec /bin/p\npost-stop exec /bin/q\n",
         )],
         base: &[],
-        rows: &FIRST_FAILURE,
+        rows: FIRST_FAILURE,
     },
     Case {
         name: "main_is_killed",
         files: &[("a.conf", "start on go\nexec /bin/d\n")],
         base: &[],
-        rows: &MAIN_IS_KILLED,
+        rows: MAIN_IS_KILLED,
     },
     Case {
         name: "strangers",
@@ -188,7 +188,7 @@ static CASES: [Case; 6] = [
             "start on go\nexec /bin/d\npre-start exec /bin/p\n",
         )],
         base: &[],
-        rows: &STRANGERS,
+        rows: STRANGERS,
     },
 ];
 

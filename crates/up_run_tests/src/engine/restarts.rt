@@ -11,7 +11,7 @@ use up_model::How;
 const STOPPED: &'static str = "stopped JOB=a INSTANCE= RESULT=ok; ";
 
 // Another start of a running job does nothing, and holds nothing.
-const START_WHILE_RUNNING: [Row; 11] = [
+const START_WHILE_RUNNING: &'static [Row] = &[
     (Given::Emit("go"), "", 1, true),
     (Given::Turn, STARTING, 2, true),
     (Given::Turn, "", 2, true),
@@ -26,7 +26,7 @@ const START_WHILE_RUNNING: [Row; 11] = [
 ];
 
 // An instance that goes lets go of what its `stop on` keeps, and the next one begins with none of it.
-const HALF_A_STOP_ON: [Row; 28] = [
+const HALF_A_STOP_ON: &'static [Row] = &[
     (Given::Emit("go"), "", 1, true),
     (Given::Turn, STARTING, 2, true),
     (Given::Turn, "", 2, true),
@@ -62,13 +62,13 @@ static CASES: [Case; 2] = [
         name: "start_while_running",
         files: &[("a.conf", "start on go\nexec /bin/d\n")],
         base: &[],
-        rows: &START_WHILE_RUNNING,
+        rows: START_WHILE_RUNNING,
     },
     Case {
         name: "half_a_stop_on",
         files: &[("a.conf", "start on go\nstop on A and B\nexec /bin/d\n")],
         base: &[],
-        rows: &HALF_A_STOP_ON,
+        rows: HALF_A_STOP_ON,
     },
 ];
 

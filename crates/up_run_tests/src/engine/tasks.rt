@@ -9,7 +9,7 @@ const SPAWN_T: &'static str =
 const STOPPED: &'static str = "stopped JOB=a INSTANCE= RESULT=ok; ";
 
 // What starts a task is held until the task has ended.
-const TASK: [Row; 14] = [
+const TASK: &'static [Row] = &[
     (Given::Emit("go"), "", 1, true),
     (Given::Turn, STARTING, 2, true),
     (Given::Turn, "", 2, true),
@@ -27,7 +27,7 @@ const TASK: [Row; 14] = [
 ];
 
 // A task that fails spoils what started it. That is told with the variables of the event, and of the telling event nothing is told.
-const FAILING_TASK: [Row; 17] = [
+const FAILING_TASK: &'static [Row] = &[
     (Given::EmitWith("go", "X", "1"), "", 1, true),
     (Given::Turn, STARTING, 2, true),
     (Given::Turn, "", 2, true),
@@ -62,7 +62,7 @@ const FAILING_TASK: [Row; 17] = [
     (Given::Turn, "", 0, false),
 ];
 
-const FAILURE_OF_A_FAILURE: [Row; 8] = [
+const FAILURE_OF_A_FAILURE: &'static [Row] = &[
     (Given::Emit("go/failed"), "", 1, true),
     (Given::Turn, STARTING, 2, true),
     (Given::Turn, "", 2, true),
@@ -89,7 +89,7 @@ const FAILURE_OF_A_FAILURE: [Row; 8] = [
 ];
 
 // A service whose main process fails after it was running has let its starter go before.
-const FAILING_SERVICE: [Row; 13] = [
+const FAILING_SERVICE: &'static [Row] = &[
     (Given::Emit("go"), "", 1, true),
     (Given::Turn, STARTING, 2, true),
     (Given::Turn, "", 2, true),
@@ -120,25 +120,25 @@ static CASES: [Case; 4] = [
         name: "task",
         files: &[("a.conf", "start on go\ntask\nexec /bin/t\n")],
         base: &[],
-        rows: &TASK,
+        rows: TASK,
     },
     Case {
         name: "failing_task",
         files: &[("a.conf", "start on go\ntask\nexec /bin/t\n")],
         base: &[],
-        rows: &FAILING_TASK,
+        rows: FAILING_TASK,
     },
     Case {
         name: "failure_of_a_failure",
         files: &[("a.conf", "start on go/failed\nexec /bin/t\n")],
         base: &[],
-        rows: &FAILURE_OF_A_FAILURE,
+        rows: FAILURE_OF_A_FAILURE,
     },
     Case {
         name: "failing_service",
         files: &[("a.conf", "start on go\nexec /bin/t\n")],
         base: &[],
-        rows: &FAILING_SERVICE,
+        rows: FAILING_SERVICE,
     },
 ];
 
