@@ -1,2 +1,3 @@
 pub mod BindingLemmas
+pub mod PlaceLemmas
 pub mod Texts

@@ -1,7 +1,5 @@
 use Rattle.std.specs.Prelude.{Bool, true, false, ◌&&◌, not, List, [], ◌∷◌, Option, None, Some, map, if◌then◌else◌, String, string_bytes}
 use Rattle.std.specs.Str.{bytes_eq}
-use Rattle.std.specs.declared.rc.Rc.{Rc}
-use Rattle.indexmap.specs.IndexMap.{IndexMap}
 use Rattle.up_value.specs.Names.{is_key, is_value}
 use Rattle.up_value.specs.Values.{Bytes, Bindings}
 
@@ -11,6 +9,10 @@ use Rattle.up_value.specs.Values.{Bytes, Bindings}
 abbrev pub value_of : Bytes → Bindings → Option Bytes
 value_of key [] = None
 value_of key (binding ∷ bindings) = if bytes_eq key binding.0 then Some binding.1 else value_of key bindings
+
+-- whether it is the pair of the key
+abbrev pub is_of : Bytes → Bytes × Bytes → Bool
+is_of key binding = bytes_eq key binding.0
 
 -- a key is set: one that is there keeps its place, and a new one goes last
 abbrev pub set_in : Bytes → Bytes → Bindings → Bindings
@@ -40,8 +42,3 @@ binding_of entry = (string_bytes entry.0, entry.1)
 
 abbrev pub bindings_of : {A : Type 0} → List (String A × Bytes) → Bindings
 bindings_of entries = map binding_of entries
-
--- the bindings of a map that several environments may share; without one there are none
-abbrev pub shared_bindings : {A S Z : Type 0} → Option (Rc (IndexMap (String A) Bytes S) Z) → Bindings
-shared_bindings None = []
-shared_bindings (Some pairs) = bindings_of pairs.value.entries

@@ -6,5 +6,7 @@ pub mod Chars
 pub mod Names
 -- Environments: lists of distinct keys with values.
 pub mod Bindings
+-- Where the pairs of an environment are.
+pub mod Pairs
 -- The numbers and names of faults of texts.
 pub mod Fault

@@ -1,12 +1,13 @@
 //! Environments: distinct keys with values, in order.
-ghost use Rattle.std.specs.Prelude.{◌≡◌, ◌<◌, ◌↔◌, [], ◌∷◌, MatchOption, false, true, length, OnOk, OnErr, IfOk, IfErr, IsTrue, if◌then◌else◌, ◌&&◌, slice_get, option_map, string_bytes, Some};
+ghost use Rattle.std.specs.Prelude.{◌≡◌, ◌<◌, ◌↔◌, [], ◌∷◌, MatchOption, false, true, length, OnOk, OnErr, IfOk, IfErr, IsTrue, if◌then◌else◌, ◌&&◌, slice_get, option_map, Some};
 ghost use Rattle.std.specs.List.{after_first, before_first, list_all};
 ghost use Rattle.up_value.specs.Names.{has_equals, is_equals, is_key, is_key_start, is_key_byte, is_value};
-ghost use Rattle.up_value.specs.Bindings.{value_of, set_in, set_all, are_bindings, bindings_of, shared_bindings};
+ghost use Rattle.up_value.specs.Bindings.{value_of, set_in, set_all, are_bindings};
+ghost use Rattle.up_value.specs.Pairs.{pairs_bindings, shared_bindings};
 
 use crate::fault::TextFault;
+use crate::pairs::Pairs;
 use crate::text::Text;
-use indexmap::IndexMap;
 use std::alloc::{AllocError, Global};
 use std::marker::Model;
 use std::rc::Rc;
@@ -16,12 +17,13 @@ use std::rc::Rc;
 pub struct Env {
     alloc: Global,
     // `None` if there is no pair.
-    pairs: Option<Rc<IndexMap<String, Text>>>,
+    pairs: Option<Rc<Pairs>>,
 }
 
 impl Model for Env {
     ghost use Rattle.std.specs.Prelude.{◌≡◌, List, ℕ, true};
-    ghost use Rattle.up_value.specs.Bindings.{are_bindings, shared_bindings};
+    ghost use Rattle.up_value.specs.Bindings.{are_bindings};
+    ghost use Rattle.up_value.specs.Pairs.{shared_bindings};
 
     ghost Value = { List (List ℕ × List ℕ) };
 
@@ -77,77 +79,16 @@ pub fn is_value(text: &str) -> bool
     text.as_bytes().iter().all(|byte| *byte != 0)
 }
 
-// Sets a key: an existing key keeps its position.
-fn insert(pairs: &mut IndexMap<String, Text>, key: String, value: Text) -> Result<(), AllocError>
-    ensures set { OnOk result (bindings_of pairs.new.entries
-        ≡ set_in (string_bytes key) value (bindings_of pairs.old.entries)) }
-    ensures unchanged { OnErr result (pairs.new.entries ≡ pairs.old.entries) }
-{
-    match pairs.insert(key, value) {
-        Ok(earlier) => {
-            drop(earlier);
-            Ok(())
-        }
-        Err(refused) => {
-            drop(refused);
-            Err(AllocError)
-        }
-    }
-}
-
-fn count(pairs: &IndexMap<String, Text>) -> usize
-    ensures { result ≡ length (bindings_of pairs.now.entries) }
-{
-    pairs.len()
-}
-
-fn value_of<'a>(pairs: &'a IndexMap<String, Text>, key: &str) -> Option<&'a str>
-    ensures { option_map (λ value. value.now) result ≡ value_of key.now (bindings_of pairs.now.entries) }
-{
-    match pairs.get(key) {
-        Some(value) => Some(value.as_str()),
-        None => None,
-    }
-}
-
-fn pair_at(pairs: &IndexMap<String, Text>, i: usize) -> (&str, &str)
-    requires { i < length (bindings_of pairs.now.entries) }
-    ensures { slice_get (bindings_of pairs.now.entries) i ≡ Some (result.0.now, result.1.now) }
-{
-    match pairs.get_index(i) {
-        Some((key, value)) => (key.as_str(), value.as_str()),
-        None => unreachable!(),
-    }
-}
-
-// The same pairs, in memory of their own.
-fn copied(
-    alloc: Global,
-    pairs: &IndexMap<String, Text>,
-) -> Result<IndexMap<String, Text>, AllocError>
-    requires { are_bindings (bindings_of pairs.now.entries) ≡ true }
-    ensures { IfOk result (λ copied. bindings_of copied.entries ≡ bindings_of pairs.now.entries) }
-{
-    let mut copied = IndexMap::new(alloc);
-    for i in 0..count(pairs) {
-        let (key, value) = pair_at(pairs, i);
-        let value = Text::from_str(alloc, value)?;
-        let key = String::from_str(alloc, key)?;
-        insert(&mut copied, key, value)?;
-    }
-    Ok(copied)
-}
-
 // Gives these pairs memory of their own if others share them.
-fn unshare(alloc: Global, pairs: &mut Rc<IndexMap<String, Text>>) -> Result<(), AllocError>
-    requires { are_bindings (bindings_of pairs.old.value.entries) ≡ true }
-    ensures { bindings_of pairs.new.value.entries ≡ bindings_of pairs.old.value.entries }
+fn unshare(alloc: Global, pairs: &mut Rc<Pairs>) -> Result<(), AllocError>
+    requires { are_bindings (pairs_bindings pairs.old.value) ≡ true }
+    ensures { pairs_bindings pairs.new.value ≡ pairs_bindings pairs.old.value }
 {
     if Rc::strong_count(pairs) == 1 {
         return Ok(());
     }
-    let shared: &Rc<IndexMap<String, Text>> = pairs;
-    let own = copied(alloc, shared.as_ref())?;
+    let shared: &Rc<Pairs> = pairs;
+    let own = shared.as_ref().copy(alloc)?;
     *pairs = Rc::new(alloc, own)?;
     Ok(())
 }
@@ -155,34 +96,29 @@ fn unshare(alloc: Global, pairs: &mut Rc<IndexMap<String, Text>>) -> Result<(), 
 // Sets a key of pairs that others may share; what these see stays.
 fn insert_shared(
     alloc: Global,
-    pairs: &mut Rc<IndexMap<String, Text>>,
-    key: String,
+    pairs: &mut Rc<Pairs>,
+    key: &str,
     value: Text,
 ) -> Result<(), AllocError>
-    requires { are_bindings (bindings_of pairs.old.value.entries) ≡ true }
-    ensures set { OnOk result (bindings_of pairs.new.value.entries
-        ≡ set_in (string_bytes key) value (bindings_of pairs.old.value.entries)) }
-    ensures unchanged { OnErr result (bindings_of pairs.new.value.entries
-        ≡ bindings_of pairs.old.value.entries) }
+    requires { are_bindings (pairs_bindings pairs.old.value) ≡ true }
+    ensures set { OnOk result (pairs_bindings pairs.new.value
+        ≡ set_in key.now value (pairs_bindings pairs.old.value)) }
+    ensures unchanged { OnErr result (pairs_bindings pairs.new.value
+        ≡ pairs_bindings pairs.old.value) }
 {
     unshare(alloc, pairs)?;
     match Rc::get_mut(pairs) {
-        Some(own) => insert(own, key, value),
+        Some(own) => own.set(alloc, key, value),
         // Only a weak reference could be in the way, and none is ever made.
         None => Err(AllocError),
     }
 }
 
 // The pairs of a first key.
-fn first_pair(
-    alloc: Global,
-    key: String,
-    value: Text,
-) -> Result<Rc<IndexMap<String, Text>>, AllocError>
-    ensures { IfOk result (λ pairs. bindings_of pairs.value.entries ≡ (string_bytes key, value) ∷ []) }
+fn first_pair(alloc: Global, key: &str, value: Text) -> Result<Rc<Pairs>, AllocError>
+    ensures { IfOk result (λ pairs. pairs_bindings pairs.value ≡ (key.now, value) ∷ []) }
 {
-    let mut pairs = IndexMap::new(alloc);
-    insert(&mut pairs, key, value)?;
+    let pairs = Pairs::of_one(alloc, key, value)?;
     let pairs = Rc::new(alloc, pairs)?;
     Ok(pairs)
 }
@@ -190,13 +126,13 @@ fn first_pair(
 // Sets a key; out of memory nothing changes.
 fn insert_in(
     alloc: Global,
-    pairs: &mut Option<Rc<IndexMap<String, Text>>>,
-    key: String,
+    pairs: &mut Option<Rc<Pairs>>,
+    key: &str,
     value: Text,
 ) -> Result<(), AllocError>
     requires { are_bindings (shared_bindings pairs.old) ≡ true }
     ensures set { OnOk result (shared_bindings pairs.new
-        ≡ set_in (string_bytes key) value (shared_bindings pairs.old)) }
+        ≡ set_in key.now value (shared_bindings pairs.old)) }
     ensures unchanged { OnErr result (shared_bindings pairs.new ≡ shared_bindings pairs.old) }
 {
     match pairs {
@@ -208,9 +144,7 @@ fn insert_in(
     }
 }
 
-fn share(
-    pairs: &Option<Rc<IndexMap<String, Text>>>,
-) -> Result<Option<Rc<IndexMap<String, Text>>>, AllocError>
+fn share(pairs: &Option<Rc<Pairs>>) -> Result<Option<Rc<Pairs>>, AllocError>
     ensures { IfOk result (λ shared. shared_bindings shared ≡ shared_bindings pairs.now) }
 {
     match pairs {
@@ -242,7 +176,7 @@ impl Env {
         ensures { result ≡ length self.now }
     {
         match &self.pairs {
-            Some(pairs) => count(pairs.as_ref()),
+            Some(pairs) => pairs.as_ref().len(),
             None => 0,
         }
     }
@@ -258,7 +192,7 @@ impl Env {
         ensures { option_map (λ value. value.now) result ≡ value_of key.now self.now }
     {
         match &self.pairs {
-            Some(pairs) => value_of(pairs.as_ref(), key),
+            Some(pairs) => pairs.as_ref().get(key),
             None => None,
         }
     }
@@ -271,7 +205,7 @@ impl Env {
         ensures value { is_value result.1.now ≡ true }
     {
         match &self.pairs {
-            Some(pairs) => pair_at(pairs.as_ref(), i),
+            Some(pairs) => pairs.as_ref().at(i),
             None => unreachable!(),
         }
     }
@@ -300,7 +234,6 @@ impl Env {
         ensures unchanged { OnErr result (self.new ≡ self.old) }
     {
         let value = Text::from_str(self.alloc, value)?;
-        let key = String::from_str(self.alloc, key)?;
         insert_in(self.alloc, &mut self.pairs, key, value)
     }
 

@@ -9,6 +9,7 @@ pub mod env;
 pub mod fault;
 pub mod items;
 pub mod name;
+mod pairs;
 pub mod text;
 
 pub use env::Env;

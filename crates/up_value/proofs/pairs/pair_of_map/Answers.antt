@@ -2,7 +2,7 @@ use Rattle.std.proofs.Common.{◌∙◌, sym, ap}
 use Rattle.std.specs.Option.{option_map}
 use Rattle.std.proofs.lemmas.Option.{slice_get-map}
 use Rattle.up_value.specs.Bindings.{binding_of}
-use Rattle.up_value.proofs.env.pair_at.Goals as goal
+use Rattle.up_value.proofs.pairs.pair_of_map.Goals as goal
 
 pub returns : goal.returns
 returns c =
