@@ -18,13 +18,23 @@ use up_engine::Engine;
 use up_model::Event;
 
 /// An engine between a host, a door and a source of configurations, which works in rounds.
-#[derive(Drop)]
 pub struct Daemon {
     work: Work,
     // the events that the next round feeds first
     first: Vec<Event>,
     // an earlier round was refused
     refused: bool,
+}
+
+// Written out, so that what drops a daemon is proved here once, and not in each crate above.
+impl Drop for Daemon {
+    fn drop(self) {
+        let Daemon {
+            work: _,
+            first: _,
+            refused: _,
+        } = self;
+    }
 }
 
 // The parts of a round, in order, with the events that are fed first.

@@ -33,7 +33,6 @@ pub struct Refusal {
 }
 
 /// A host over the system's processes and its clock, whose readings start at 0.
-#[derive(Drop)]
 pub struct RealHost<R: Processes> {
     system: R,
     alloc: Global,
@@ -45,6 +44,22 @@ pub struct RealHost<R: Processes> {
     next: usize,
     journal: Journal<Happened>,
     refusals: Vec<Refusal>,
+}
+
+// Written out, so that what drops a host is proved here once, and not in each crate above.
+impl<R: Processes> Drop for RealHost<R> {
+    fn drop(self) {
+        let RealHost {
+            system: _,
+            alloc: _,
+            start: _,
+            children: _,
+            helpers: _,
+            next: _,
+            journal: _,
+            refusals: _,
+        } = self;
+    }
 }
 
 fn spawn_order<R: Processes>(

@@ -10,12 +10,23 @@ use std::alloc::Global;
 use up_model::Loaded;
 
 /// A source that plays a script: it returns one configuration per call.
-#[derive(Drop)]
 pub struct ScriptSource {
     alloc: Global,
     loads: Vec<Option<Loaded>>,
     next: usize,
     journal: Journal<Loaded>,
+}
+
+// Written out, so that what drops a source is proved here once, and not in each crate above.
+impl Drop for ScriptSource {
+    fn drop(self) {
+        let ScriptSource {
+            alloc: _,
+            loads: _,
+            next: _,
+            journal: _,
+        } = self;
+    }
 }
 
 impl ScriptSource {

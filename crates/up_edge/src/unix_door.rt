@@ -30,7 +30,6 @@ const MOST_EVENTS: usize = 64;
 const LISTENER: usize = usize::MAX;
 
 /// A door over a unix socket, whose calls don't wait.
-#[derive(Drop)]
 pub struct UnixDoor {
     alloc: Global,
     listener: UnixListener,
@@ -42,6 +41,22 @@ pub struct UnixDoor {
     // the calls that failed since the record was emptied
     failed: Vec<DoorCall>,
     journal: Journal<Passed>,
+}
+
+// Written out, so that what drops a door is proved here once, and not in each crate above.
+impl Drop for UnixDoor {
+    fn drop(self) {
+        let UnixDoor {
+            alloc: _,
+            listener: _,
+            poll: _,
+            events: _,
+            clients: _,
+            dismissed: _,
+            failed: _,
+            journal: _,
+        } = self;
+    }
 }
 
 // The client that was waiting to be let in, if any.

@@ -35,7 +35,6 @@ use up_text::{Env, Items, Text};
 /// Runs the jobs of a table: takes one input per step, and returns what is to be done.
 ///
 /// It keeps only the part of the past that can still matter.
-#[derive(Drop)]
 pub struct Engine {
     alloc: Global,
     setup: Setup,
@@ -45,6 +44,20 @@ pub struct Engine {
     live: usize,
     turns: bool,
     ghost sound: { IsSound down setup book },
+}
+
+// Written out, so that what drops an engine is proved here once, and not in each crate above.
+impl Drop for Engine {
+    fn drop(self) {
+        let Engine {
+            alloc: _,
+            setup: _,
+            book: _,
+            down: _,
+            live: _,
+            turns: _,
+        } = self;
+    }
 }
 
 // Takes an input, and does what is due until nothing is; after a load nothing is due.

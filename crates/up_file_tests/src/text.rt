@@ -193,6 +193,54 @@ fn copies_are_apart(rt: HostRuntime) -> Result<(), Fail> {
     Ok(())
 }
 
+// Sets so many keys, K0, K1 and so on, each to its own name.
+fn set_many(alloc: Global, env: &mut Env, count: usize) -> Result<(), TextFault> {
+    for i in 0..count {
+        let key = format!(in alloc; "K{i}")?;
+        env.set(key.as_str(), key.as_str())?;
+    }
+    Ok(())
+}
+
+// Whether these are all keys, in this order.
+fn has_many(alloc: Global, env: &Env, count: usize) -> Result<bool, AllocError> {
+    for i in 0..count {
+        let key = format!(in alloc; "K{i}")?;
+        let key = key.as_str();
+        if i >= env.len() || env.at(i) != (key, key) || env.get(key) != Some(key) {
+            return Ok(false);
+        }
+    }
+    Ok(env.len() == count && env.get("K").is_none())
+}
+
+// Whether a copy gets more keys, and all of them once again, while the environment keeps its own.
+fn grows_apart(alloc: Global, env: &Env, count: usize) -> Result<bool, TextFault> {
+    let more_keys = count.saturating_add(3);
+    let mut copied = env.copy()?;
+    let more = set_many(alloc, &mut copied, more_keys);
+    let again = set_many(alloc, &mut copied, more_keys);
+    let has_more = has_many(alloc, &copied, more_keys);
+    drop(copied);
+    more?;
+    again?;
+    Ok(has_more? && has_many(alloc, env, count)?)
+}
+
+// Up to 16 keys are in a list, and more in a map.
+#[test]
+fn environments_of_many_keys(rt: HostRuntime) -> Result<(), Fail> {
+    for count in [0, 13, 14, 15, 16, 17, 100] {
+        let mut env = Env::new(rt.alloc());
+        let set = set_many(rt.alloc(), &mut env, count);
+        let apart = grows_apart(rt.alloc(), &env, count);
+        drop(env);
+        set?;
+        assert!(rt; apart?);
+    }
+    Ok(())
+}
+
 // A short text, which lies in the value itself, and one that doesn't.
 const TEXTS: &'static [&'static str] = &["", "a\u{e9}", "a text of more than twenty-four bytes"];
 

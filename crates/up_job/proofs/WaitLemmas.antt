@@ -139,14 +139,6 @@ beyond-new calm jobs job from = among jobs job
     among (file ∷ jobs) zero = refl
     among (file ∷ jobs) (suc job) = among jobs job
 
--- where no job is between the two places
-pub nobody-waits : (quiet calm : ℕ) (jobs : List JobInstances) → calm ≤ quiet → AreQuiet quiet jobs → AreCalm calm jobs → (job : ℕ) → any_waits (instances_at job jobs) ≡ false
-nobody-waits quiet calm jobs past before beyond job = by_case (nat_lt job quiet) refl
-  where
-    by_case : (less : Bool) → nat_lt job quiet ≡ less → any_waits (instances_at job jobs) ≡ false
-    by_case true is = before job (grind (arith, is))
-    by_case false is = beyond job (grind (arith, is, past))
-
 -- one job changes so that none of its instances begins to wait
 calm-job : (place : ℕ) (f : JobInstances → JobInstances) → ((its : JobInstances) → any_waits its.instances ≡ false → any_waits (f its).instances ≡ false) → (jobs : List JobInstances) (job : ℕ)
     → any_waits (instances_at job jobs) ≡ false → any_waits (instances_at job (with_at place f jobs)) ≡ false

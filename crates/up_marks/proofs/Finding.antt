@@ -228,20 +228,39 @@ or-last false false c = or-false c
     or-false true = refl
     or-false false = refl
 
+wanted-more : (admits_ : Place → Bool) (name : Bytes) (vars : Bindings) (leaves : List Wanted) (i : ℕ) (key value : Bytes) → slice_get vars i ≡ Some (key, value)
+    → (n : ℕ) → (has_wanted admits_ name (take i vars) leaves n || has_wanting admits_ name value leaves n) ≡ has_wanted admits_ name (take (i + 1) vars) leaves n
+wanted-more admits_ name vars leaves i key value there n =
+    let p : Bytes × Bytes → Bool = λ pair. has_wanting admits_ name pair.1 leaves n in
+    let plain = has_wanting admits_ name [] leaves n in
+    or-last (list_any p (take i vars)) (has_wanting admits_ name value leaves n) plain
+    ∙ sym (ap (λ (b : Bool). b || plain) (any-more p vars i (key, value) there))
+    ∙ ap (λ k. list_any p (take k vars) || plain) (sym (add-one i))
+
 pub least-more : (admits_ : Place → Bool) (name : Bytes) (vars : Bindings) (leaves : List Wanted) (from i : ℕ) (key value : Bytes) (one other : Option ℕ) → slice_get vars i ≡ Some (key, value)
     → IsLeastFrom (has_wanted admits_ name (take i vars) leaves) from one → IsLeastFrom (has_wanting admits_ name value leaves) from other
     → IsLeastFrom (has_wanted admits_ name (take (i + 1) vars) leaves) from (lesser one other)
 least-more admits_ name vars leaves from i key value one other there first second =
-    least-same (λ n. has_wanted admits_ name (take i vars) leaves n || has_wanting admits_ name value leaves n) (has_wanted admits_ name (take (i + 1) vars) leaves) from (λ n after. same n) (lesser one other)
+    least-same (λ n. has_wanted admits_ name (take i vars) leaves n || has_wanting admits_ name value leaves n) (has_wanted admits_ name (take (i + 1) vars) leaves) from
+    (λ n after. wanted-more admits_ name vars leaves i key value there n) (lesser one other)
     (least-of (has_wanted admits_ name (take i vars) leaves) (has_wanting admits_ name value leaves) from one other first second)
+
+or-again : (a b : Bool) → (a || b) ≡ ((a || b) || b)
+or-again true b = refl
+or-again false true = refl
+or-again false false = refl
+
+-- a variable without a value adds none
+pub least-again : (admits_ : Place → Bool) (name : Bytes) (vars : Bindings) (leaves : List Wanted) (from i : ℕ) (key value : Bytes) (next : Option ℕ) → slice_get vars i ≡ Some (key, value)
+    → value ≡ [] → IsLeastFrom (has_wanted admits_ name (take i vars) leaves) from next → IsLeastFrom (has_wanted admits_ name (take (i + 1) vars) leaves) from next
+least-again admits_ name vars leaves from i key value next there empty first =
+    least-same (has_wanted admits_ name (take i vars) leaves) (has_wanted admits_ name (take (i + 1) vars) leaves) from (λ n after. same n) next first
   where
-    same : (n : ℕ) → (has_wanted admits_ name (take i vars) leaves n || has_wanting admits_ name value leaves n) ≡ has_wanted admits_ name (take (i + 1) vars) leaves n
+    same : (n : ℕ) → has_wanted admits_ name (take i vars) leaves n ≡ has_wanted admits_ name (take (i + 1) vars) leaves n
     same n =
-        let p : Bytes × Bytes → Bool = λ pair. has_wanting admits_ name pair.1 leaves n in
-        let plain = has_wanting admits_ name [] leaves n in
-        or-last (list_any p (take i vars)) (has_wanting admits_ name value leaves n) plain
-        ∙ sym (ap (λ (b : Bool). b || plain) (any-more p vars i (key, value) there))
-        ∙ ap (λ k. list_any p (take k vars) || plain) (sym (add-one i))
+        or-again (list_any (λ (pair : Bytes × Bytes). has_wanting admits_ name pair.1 leaves n) (take i vars)) (has_wanting admits_ name [] leaves n)
+        ∙ ap (λ (its : Bytes). has_wanted admits_ name (take i vars) leaves n || has_wanting admits_ name its leaves n) (sym empty)
+        ∙ wanted-more admits_ name vars leaves i key value there n
 
 -- a job that no other can come before is the first, whatever the other variables are
 any-taken : (p : Bytes × Bytes → Bool) (vars : Bindings) (i : ℕ) → list_any p (take i vars) ≡ true → list_any p vars ≡ true

@@ -62,7 +62,7 @@ key-wanted name value leaf is =
     ap (λ (event : Bytes). (event, leaf.value, leaf.place.job)) ((bytes_eq-Decides leaf.place.event name).0 parts.0)
     ∙ ap (λ (its : Bytes). (name, its, leaf.place.job)) ((bytes_eq-Decides leaf.value value).0 parts.1)
 
-lt-cmp : (a b : ℕ) → is_lt (nat_cmp a b) ≡ nat_lt a b
+pub lt-cmp : (a b : ℕ) → is_lt (nat_cmp a b) ≡ nat_lt a b
 lt-cmp a b = by_less (nat_lt a b)
   where
     by_same : (b : Bool) → is_lt (if b then Equal else Greater) ≡ false

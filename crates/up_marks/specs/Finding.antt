@@ -86,8 +86,15 @@ abbrev pub Finds : List Wanted → List JobDef → Type 0
 Finds leaves jobs = IsPermutation (map (wanting jobs) (places_of 0 jobs)) leaves
 
 -- those that name an event
+abbrev pub names : (name : Bytes) → Wanted → Bool
+names name leaf = bytes_eq leaf.place.event name
+
 abbrev pub of_event : (name : Bytes) → List Wanted → List Wanted
-of_event name leaves = filter (λ leaf. bytes_eq leaf.place.event name) leaves
+of_event name leaves = filter (names name) leaves
+
+-- whether a leaf comes before those of its event that want a value and are of this job or a later one
+abbrev pub is_early : (value : Bytes) → (job : ℕ) → Wanted → Bool
+is_early value job leaf = is_before (key_of leaf) (leaf.place.event, value, job)
 
 -- whether a leaf names an event and wants this value of it
 abbrev pub wants : (name value : Bytes) → Wanted → Bool

@@ -1,12 +1,13 @@
 //! Finds the jobs that an event may concern, by its name and its values.
 ghost use Rattle.std.specs.Prelude.{◌≡◌, ◌≤◌, true, false, not, IfOk, IfSome, IsTrue, Some, length};
 ghost use Rattle.std.specs.Cmp.Lexicographic.{slice_cmp};
+ghost use Rattle.std.specs.List.{list_all};
 ghost use Rattle.std.specs.List.Sorted.{IsPartitionPoint, IsPermutation};
 ghost use Rattle.std.specs.Ordering.{nat_cmp, ordering_then};
 ghost use Rattle.up_conf.specs.Order.{is_below};
 ghost use Rattle.up_image.specs.Index.{named, places_of};
 ghost use Rattle.up_marks.specs.Finding as finding;
-ghost use Rattle.up_marks.specs.Finding.{AreOrdered, Finds, IsLeastFrom, IsNextJob, first_wanting, has_wanted, has_wanting, is_before, key_of, lesser};
+ghost use Rattle.up_marks.specs.Finding.{AreOrdered, Finds, IsLeastFrom, IsNextJob, first_wanting, has_wanted, has_wanting, is_before, is_early, key_of, lesser, names};
 ghost use Rattle.up_marks.specs.Ruling.{admits};
 
 use crate::ruling::admits;
@@ -99,14 +100,27 @@ fn of_event<'a>(leaves: &'a [Wanted], name: &Name) -> &'a [Wanted]
     run
 }
 
-// The number of leaves before those that name an event, want this value of it, and aren't of earlier jobs.
+// Whether a leaf comes before those of its event that want this value and are of this job or a later one.
+fn is_early(leaf: &Wanted, value: &str, job: usize) -> bool
+    ensures { result ≡ is_early value.now job leaf.now }
+{
+    match leaf.value.as_str().cmp(value) {
+        Ordering::Less => true,
+        Ordering::Equal => usize::from(leaf.place.job) < job,
+        Ordering::Greater => false,
+    }
+}
+
+// The number of leaves of one event before those that want this value of it and aren't of earlier jobs.
 fn before_len(leaves: &[Wanted], name: &Name, value: &str, job: usize) -> usize
-    requires { AreOrdered leaves.now }
+    requires ordered { AreOrdered leaves.now }
+    requires named { list_all (names name.now) leaves.now ≡ true }
     ensures before { IsPartitionPoint (λ leaf. is_before (key_of leaf) (name.now, value.now, job) ≡ true)
         (λ leaf. is_before (key_of leaf) (name.now, value.now, job) ≡ false) leaves.now result }
     ensures within { result ≤ length leaves.now }
 {
-    leaves.partition_point(|leaf| compare(leaf, name.as_str(), value, job).is_lt())
+    let _name = name;
+    leaves.partition_point(|leaf| is_early(leaf, value, job))
 }
 
 fn wants(leaf: &Wanted, name: &Name, value: &str) -> bool
@@ -131,7 +145,7 @@ fn first_wanting(leaves: &[Wanted], jobs: &[JobFile], event: &Event, value: &str
     None
 }
 
-// The first job at or after `from` with a leaf that wants this value of an event, and may match it.
+// Of leaves that name an event, the first job at or after `from` with one that wants this value of it, and may match it.
 fn next_wanting(
     leaves: &[Wanted],
     jobs: &[JobFile],
@@ -139,7 +153,8 @@ fn next_wanting(
     value: &str,
     from: usize,
 ) -> Option<usize>
-    requires { AreOrdered leaves.now }
+    requires ordered { AreOrdered leaves.now }
+    requires named { list_all (names event.now.name) leaves.now ≡ true }
     ensures { IsLeastFrom (has_wanting (admits jobs.now event.now) event.now.name value.now leaves.now) from result }
 {
     let (_, later) = leaves.split_at(before_len(leaves, &event.name, value, from));
@@ -156,9 +171,10 @@ fn is_first(next: Option<usize>, from: usize) -> bool
     }
 }
 
-// The first job at or after `from` with a leaf that wants no value or one that the event has, and may match it.
+// Of leaves that name an event, the first job at or after `from` with one that wants no value or one that the event has, and may match it.
 fn next_wanted(leaves: &[Wanted], jobs: &[JobFile], event: &Event, from: usize) -> Option<usize>
-    requires { AreOrdered leaves.now }
+    requires ordered { AreOrdered leaves.now }
+    requires named { list_all (names event.now.name) leaves.now ≡ true }
     ensures { IsLeastFrom (has_wanted (admits jobs.now event.now) event.now.name event.now.vars leaves.now) from result }
 {
     let mut next = next_wanting(leaves, jobs, event, "", from);
@@ -167,6 +183,10 @@ fn next_wanted(leaves: &[Wanted], jobs: &[JobFile], event: &Event, from: usize) 
             return next;
         }
         let (_, value) = event.vars.at(i);
+        // The leaves that want no value are the first that were sought.
+        if value.is_empty() {
+            continue;
+        }
         next = lesser_of(next, next_wanting(leaves, jobs, event, value, from));
     }
     next

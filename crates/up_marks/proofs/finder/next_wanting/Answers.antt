@@ -11,4 +11,4 @@ returns c =
     let value = c.args.value.now in
     subst (IsLeastFrom (has_wanting test name value c.args.leaves.now) c.args.from)
     (sym (c.first_wanting.ensures ∙ ap (first_wanting test name value) c.split_at.ensures.back))
-    (next-least test name value c.args.from c.args.leaves.now c.before_len.result c.requires c.before_len.ensures.before c.before_len.ensures.within)
+    (next-least test name value c.args.from c.args.leaves.now c.before_len.result c.requires.ordered c.before_len.ensures.before c.before_len.ensures.within)

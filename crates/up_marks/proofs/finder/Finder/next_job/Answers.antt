@@ -1,15 +1,22 @@
-use Rattle.std.proofs.Common.{◌≡◌, ◌∙◌, List, ap, subst, sym}
-use Rattle.up_marks.specs.Finding.{AreOrdered, IsLeastFrom, has_wanted, of_event}
+use Rattle.std.proofs.Common.{◌≡◌, ◌∙◌, List, true, ap, subst, sym}
+use Rattle.std.specs.List.{list_all}
+use Rattle.up_marks.specs.Finding.{AreOrdered, IsLeastFrom, has_wanted, names, of_event}
 use Rattle.up_marks.specs.Ruling.{admits}
 use Rattle.up_marks.specs.declared.wanted.Wanted.{Wanted}
+use Rattle.up_marks.proofs.Early.{all-named}
 use Rattle.up_marks.proofs.EventRuns.{ordered-run, same-wanted}
 use Rattle.up_marks.proofs.Finding.{found-all, least-later}
 use Rattle.up_marks.proofs.Ordered.{least-same}
 use Rattle.up_marks.proofs.finder.Finder.next_job.Goals as goal
 
-pub next_wanted-requires : goal.next_wanted-requires
-next_wanted-requires c =
+pub next_wanted-requires-clause-ordered : goal.next_wanted-requires-clause-ordered
+next_wanted-requires-clause-ordered c =
     subst AreOrdered (sym c.of_event-leaves.ensures) (ordered-run c.args.event.now.name c.as_slice.result.now (subst AreOrdered (sym c.as_slice.ensures.value) c.self.invariant))
+
+pub next_wanted-requires-clause-named : goal.next_wanted-requires-clause-named
+next_wanted-requires-clause-named c =
+    let name = c.args.event.now.name in
+    subst (λ (leaves : List Wanted). list_all (names name) leaves ≡ true) (sym c.of_event-leaves.ensures) (all-named name c.as_slice.result.now)
 
 pub returns-clause-next : goal.returns-clause-next
 returns-clause-next c finds =
