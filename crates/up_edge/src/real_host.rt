@@ -47,7 +47,7 @@ pub struct RealHost<R: Processes> {
 }
 
 // Written out, so that what drops a host is proved here once, and not in each crate above.
-impl<R: Processes> Drop for RealHost<R> {
+impl<R: Processes + Drop> Drop for RealHost<R> {
     fn drop(self) {
         let RealHost {
             system: _,

@@ -81,14 +81,24 @@ fn below_len(leaves: &[Wanted], name: &Name) -> usize
     leaves.partition_point(|leaf| leaf.place.event.as_str().cmp(name.as_str()).is_lt())
 }
 
-// The number of leaves with events up to `name`.
+// Whether a leaf's event is `name` or below it.
+fn is_upto(leaf: &Wanted, name: &Name) -> bool
+    ensures { result ≡ not (is_below name.now leaf.now.place.event) }
+{
+    !name.as_str().cmp(leaf.place.event.as_str()).is_lt()
+}
+
+// The number of leaves with events up to `name`. Often they are all, which the last one tells.
 fn upto_len(leaves: &[Wanted], name: &Name) -> usize
     requires { AreOrdered leaves.now }
     ensures upto { IsPartitionPoint (λ leaf. not (is_below name.now leaf.place.event) ≡ true)
         (λ leaf. not (is_below name.now leaf.place.event) ≡ false) leaves.now result }
     ensures within { result ≤ length leaves.now }
 {
-    leaves.partition_point(|leaf| !name.as_str().cmp(leaf.place.event.as_str()).is_lt())
+    match leaves.last() {
+        Some(last) if is_upto(last, name) => leaves.len(),
+        _ => leaves.partition_point(|leaf| is_upto(leaf, name)),
+    }
 }
 
 fn of_event<'a>(leaves: &'a [Wanted], name: &Name) -> &'a [Wanted]
@@ -111,7 +121,8 @@ fn is_early(leaf: &Wanted, value: &str, job: usize) -> bool
     }
 }
 
-// The number of leaves of one event before those that want this value of it and aren't of earlier jobs.
+// The number of leaves of one event before those that want this value of it and aren't of earlier jobs. Often there are none, as before
+// those that want no value, which the first one tells.
 fn before_len(leaves: &[Wanted], name: &Name, value: &str, job: usize) -> usize
     requires ordered { AreOrdered leaves.now }
     requires named { list_all (names name.now) leaves.now ≡ true }
@@ -120,7 +131,10 @@ fn before_len(leaves: &[Wanted], name: &Name, value: &str, job: usize) -> usize
     ensures within { result ≤ length leaves.now }
 {
     let _name = name;
-    leaves.partition_point(|leaf| is_early(leaf, value, job))
+    match leaves.first() {
+        Some(first) if !is_early(first, value, job) => 0,
+        _ => leaves.partition_point(|leaf| is_early(leaf, value, job)),
+    }
 }
 
 fn wants(leaf: &Wanted, name: &Name, value: &str) -> bool

@@ -48,14 +48,17 @@ fn below_len(places: &[Place], name: &Name) -> usize
     places.partition_point(|place| is_below(&place.event, name))
 }
 
-// The number of places with events up to `name`.
+// The number of places with events up to `name`. Often they are all, which the last one tells.
 fn upto_len(places: &[Place], name: &Name) -> usize
     requires { IsAscending places.now }
     ensures upto { IsPartitionPoint (λ place. not (is_below name.now place.event) ≡ true)
         (λ place. not (is_below name.now place.event) ≡ false) places.now result }
     ensures within { result ≤ length places.now }
 {
-    places.partition_point(|place| !is_below(name, &place.event))
+    match places.last() {
+        Some(last) if !is_below(name, &last.event) => places.len(),
+        _ => places.partition_point(|place| !is_below(name, &place.event)),
+    }
 }
 
 // The places with this event.

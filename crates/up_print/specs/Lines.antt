@@ -1,5 +1,5 @@
 -- The lines that are printed.
-use Rattle.std.specs.Prelude.{ℕ, Bool, true, false, ◌==◌, List, [], ◌∷◌, ◌++◌, if◌then◌else◌, codes}
+use Rattle.std.specs.Prelude.{ℕ, Bool, true, false, ◌==◌, ◌||◌, not, List, [], ◌∷◌, ◌++◌, if◌then◌else◌, codes}
 use Rattle.std.specs.List.{flat_map}
 use Rattle.std.specs.Fmt.{decimal}
 use Rattle.up_model.specs.declared.event.Event.{Event}
@@ -12,6 +12,10 @@ use Rattle.up_model.specs.declared.step.Step.TheVariants as step
 use Rattle.up_model.specs.declared.who.Who.{Who}
 use Rattle.up_model.specs.Events.{process_name}
 use Rattle.up_model.specs.Signals.{signal_text}
+
+-- a byte that stands for itself in quoted text
+abbrev pub is_plain : ℕ → Bool
+is_plain byte = not (byte == 34 || byte == 92 || byte == 10 || byte == 9)
 
 -- a byte of quoted text
 unfoldable pub escaped : ℕ → List ℕ

@@ -1,9 +1,9 @@
 //! The lines that are printed.
 ghost use Rattle.std.specs.Prelude.{◌≡◌, ◌++◌, OnOk};
-ghost use Rattle.std.specs.List.{flat_map};
+ghost use Rattle.std.specs.List.{flat_map, list_all};
 ghost use Rattle.std.specs.Fmt.{decimal};
 ghost use Rattle.up_model.specs.Signals.{signal_text};
-ghost use Rattle.up_print.specs.Lines.{escaped, quoted, instance_text, who_text, word_text, binding_text, variable_text, variable_line, spawn_lines, signal_line, event_line, verdict_text, reply_line, output_lines, step_lines, bad_statement_line};
+ghost use Rattle.up_print.specs.Lines.{escaped, is_plain, quoted, instance_text, who_text, word_text, binding_text, variable_text, variable_line, spawn_lines, signal_line, event_line, verdict_text, reply_line, output_lines, step_lines, bad_statement_line};
 
 use std::alloc::AllocError;
 use up_conf::signal_name;
@@ -32,9 +32,25 @@ fn push_escaped(text: &mut Vec<u8>, byte: u8) -> Result<(), AllocError>
     }
 }
 
+fn is_plain(byte: u8) -> bool
+    ensures { result ≡ is_plain byte }
+{
+    !matches!(byte, b'"' | b'\\' | b'\n' | b'\t')
+}
+
+fn are_plain(bytes: &[u8]) -> bool
+    ensures { result ≡ list_all is_plain bytes.now }
+{
+    bytes.iter().all(|byte| is_plain(*byte))
+}
+
+#[tactic(auto, using(crate::proofs::Plain::plain_bytes))]
 fn push_all_escaped(text: &mut Vec<u8>, bytes: &[u8]) -> Result<(), AllocError>
     ensures { OnOk result (text.new.items ≡ text.old.items ++ flat_map escaped bytes.now) }
 {
+    if are_plain(bytes) {
+        return text.extend_from_slice(bytes);
+    }
     for byte in bytes {
         push_escaped(text, *byte)?;
     }

@@ -1,5 +1,5 @@
 //! Reads a script.
-ghost use Rattle.std.specs.Prelude.{◌≡◌, ◌<◌, ◌+◌, IfOk, IfSome, MatchOption, OnErr, true, false, [], length, option_map};
+ghost use Rattle.std.specs.Prelude.{◌≡◌, ◌<◌, ◌+◌, IfOk, IfSome, MatchOption, None, OnErr, Some, if◌then◌else◌, true, false, [], length, option_map};
 ghost use Rattle.up_stanza.specs.Reading.{LacksMemory};
 ghost use Rattle.up_text.specs.Places.{reading};
 ghost use Rattle.up_text.specs.Lexemes.{lexemes_of, stanzas};
@@ -77,29 +77,31 @@ fn next_word(alloc: Global, lexer: &mut Lexer) -> Result<Next, AllocError>
     }
 }
 
-// The words of the next step, if each is whole; the lexer is then after the step.
-fn step_words(alloc: Global, lexer: &mut Lexer) -> Result<Option<Items<Text>>, AllocError>
-    ensures words { IfOk result (λ words. words ≡ texts_in (lexemes_of lexer.old)) }
-    ensures after { IfOk result (λ words. IfSome words
-        (λ _. lexemes_of lexer.new ≡ after_step (lexemes_of lexer.old))) }
+// Puts the words of the next step in place of earlier ones, whose memory is used again. Returns whether each is whole; the lexer is then
+// after the step.
+fn step_words(alloc: Global, lexer: &mut Lexer, words: &mut Vec<Text>) -> Result<bool, AllocError>
+    ensures words { IfOk result (λ whole. (if whole then Some words.new.items else None) ≡ texts_in (lexemes_of lexer.old)) }
+    ensures after { IfOk result (λ whole. whole ≡ true
+        → lexemes_of lexer.new ≡ after_step (lexemes_of lexer.old)) }
     ensures within { ReachesNoFurther lexer.new lexer.old }
 {
-    let mut words: Vec<Text> = Vec::new(alloc);
+    words.clear();
     'words: loop {
         match next_word(alloc, lexer)? {
             Next::Word(word) => words.push(word)?,
-            Next::End => break,
-            Next::Bad => return Ok(None),
+            Next::End => return Ok(true),
+            Next::Bad => return Ok(false),
         }
     }
-    Ok(Some(Items::new(words)))
 }
 
-// The inputs of the next step, unless it is bad; the lexer is then after it, and a load has taken the next table.
+// The inputs of the next step, unless it is bad; the lexer is then after it, and a load has taken the next table. Overwrites `words` with
+// the words of the step.
 fn step_inputs(
     alloc: Global,
     tables: &mut VecDeque<Table>,
     lexer: &mut Lexer,
+    words: &mut Vec<Text>,
 ) -> Result<Option<StepInputs>, AllocError>
     ensures inputs { IfOk result (λ given. option_map inputs_of_step given
         ≡ step_inputs tables.old.items (lexemes_of lexer.old)) }
@@ -109,9 +111,10 @@ fn step_inputs(
         (λ _. lexemes_of lexer.new ≡ after_step (lexemes_of lexer.old))) }
     ensures within { ReachesNoFurther lexer.new lexer.old }
 {
-    match step_words(alloc, lexer)? {
-        Some(words) => inputs_of(alloc, tables, words.as_slice()),
-        None => Ok(None),
+    if step_words(alloc, lexer, words)? {
+        inputs_of(alloc, tables, words.as_slice())
+    } else {
+        Ok(None)
     }
 }
 
@@ -127,10 +130,11 @@ fn text_inputs(
     ensures { IfOk result (λ read. read ≡ inputs_from tables.old.items line (stanzas text.now)) }
 {
     let mut inputs = ScriptInputs::none(alloc);
+    let mut words: Vec<Text> = Vec::new(alloc);
     let mut lexer = Lexer::new(text);
     'steps: while !lexer.at_end() {
         let lines = lexer.line();
-        match step_inputs(alloc, tables, &mut lexer)? {
+        match step_inputs(alloc, tables, &mut lexer, &mut words)? {
             Some(given) => inputs.push(given)?,
             None => return Ok(Err(line + lines.saturating_sub(1))),
         }

@@ -2,5 +2,5 @@
 use Rattle.std.proofs.Common.{rules}
 use Rattle.up_script.proofs.script.step_inputs.Goals as goal
 
-pub returns-in-Some-clause-inputs : goal.returns-in-Some-clause-inputs
-returns-in-Some-clause-inputs c = search rules
+pub returns-then-branch-clause-inputs : goal.returns-then-branch-clause-inputs
+returns-then-branch-clause-inputs c = search rules
