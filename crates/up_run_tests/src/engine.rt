@@ -287,12 +287,41 @@ fn try_case(rt: &impl Abort, alloc: Global, case: &Case) -> Result<(), Untried> 
     checked
 }
 
+// The first line of a case, counted from that below its name, that is no statement of its script.
+fn bad_line(alloc: Global, case: &Case) -> Option<u32> {
+    let Ok(run) = compiled(alloc, case.bundle) else {
+        return None;
+    };
+    let BundleRun {
+        faults,
+        table,
+        read,
+    } = run;
+    drop(faults);
+    drop(table);
+    match read {
+        Ok(inputs) => {
+            drop(inputs);
+            None
+        }
+        Err(line) => Some(line),
+    }
+}
+
 /// Tries the case of a text, which begins with its name.
 pub(crate) fn check_case(rt: &impl Abort, alloc: Global, text: &str) -> Result<(), Fail> {
     let case = case_of(text);
     match try_case(rt, alloc, &case) {
         Ok(()) => Ok(()),
-        Err(_) => Err(Fail::new(case.name)),
+        Err(_) => {
+            assert_eq!(rt;
+                bad_line(alloc, &case),
+                None,
+                "the bad line of {}",
+                case.name
+            );
+            Err(Fail::new(case.name))
+        }
     }
 }
 
