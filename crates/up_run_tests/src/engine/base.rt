@@ -1,117 +1,119 @@
 //! Rows of a base environment, and of what overrides it, step by step.
-use crate::engine::{Case, Given, Row, STARTED, STARTING, STOPPING, check_cases};
+use crate::engine::check_cases;
 use std::test::Fail;
 
-// A value of `start on` expands by the base environment.
-const VALUE_BY_BASE: &'static [Row] = &[
-    (Given::EmitWith("go", "X", "2"), "", 1, true),
-    (Given::Turn, "", 1, true),
-    (Given::Turn, "", 0, false),
-    (Given::EmitWith("go", "X", "1"), "", 1, true),
-    (Given::Turn, STARTING, 2, true),
-    (Given::Turn, "", 2, true),
-    (
-        Given::Turn,
-        "spawn a() Main [/bin/d ] in / silent=false PATH=/bin X=1 UPSTART_EVENTS=go UPSTART_JOB=a UPSTART_INSTANCE=; ",
-        1,
-        false,
-    ),
-];
+static CASES: &str = r#"
+# A value of `start on` expands by the base environment.
+%case value_by_base: PATH=/bin, X=1
+%file a.conf
+start on go X=$X
+exec /bin/d
+%script
+emit go X=2 #> 1 live, turn
+turn #> 1 live, turn
+turn #> 0 live
+emit go X=1 #> 1 live, turn
+turn #> 2 live, turn
+#> event starting JOB="a" INSTANCE=""
+turn #> 2 live, turn
+turn #> 1 live
+#> spawn a main "/bin/d"
+#>   PATH="/bin"
+#>   X="1"
+#>   UPSTART_EVENTS="go"
+#>   UPSTART_JOB="a"
+#>   UPSTART_INSTANCE=""
 
-// A variable of the event stands in the place of the base's.
-const EVENT_OVERRIDES_BASE: &'static [Row] = &[
-    (Given::EmitWith("go", "PATH", "/sbin"), "", 1, true),
-    (Given::Turn, STARTING, 2, true),
-    (Given::Turn, "", 2, true),
-    (
-        Given::Turn,
-        "spawn a() Main [/bin/d ] in / silent=false PATH=/sbin X=1 UPSTART_EVENTS=go UPSTART_JOB=a UPSTART_INSTANCE=; ",
-        1,
-        false,
-    ),
-];
+# A variable of the event stands in the place of the base's.
+%case event_overrides_base: PATH=/bin, X=1
+%file a.conf
+start on go
+exec /bin/d
+%script
+emit go PATH=/sbin #> 1 live, turn
+turn #> 2 live, turn
+#> event starting JOB="a" INSTANCE=""
+turn #> 2 live, turn
+turn #> 1 live
+#> spawn a main "/bin/d"
+#>   PATH="/sbin"
+#>   X="1"
+#>   UPSTART_EVENTS="go"
+#>   UPSTART_JOB="a"
+#>   UPSTART_INSTANCE=""
 
-const LATER_EVENT_OVERRIDES: &'static [Row] = &[
-    (Given::EmitWith("A", "Y", "1"), "", 1, true),
-    (Given::Turn, "", 1, false),
-    (Given::EmitWith("B", "Y", "2"), "", 2, true),
-    (Given::Turn, STARTING, 3, true),
-    (Given::Turn, "", 3, true),
-    (
-        Given::Turn,
-        "spawn a() Main [/bin/d ] in / silent=false Y=2 UPSTART_EVENTS=A B UPSTART_JOB=a UPSTART_INSTANCE=; ",
-        2,
-        false,
-    ),
-];
+%case later_event_overrides
+%file a.conf
+start on A and B
+exec /bin/d
+%script
+emit A Y=1 #> 1 live, turn
+turn #> 1 live
+emit B Y=2 #> 2 live, turn
+turn #> 3 live, turn
+#> event starting JOB="a" INSTANCE=""
+turn #> 3 live, turn
+turn #> 2 live
+#> spawn a main "/bin/d"
+#>   Y="2"
+#>   UPSTART_EVENTS="A B"
+#>   UPSTART_JOB="a"
+#>   UPSTART_INSTANCE=""
 
-const SPAWN_WITH_Y: &'static str =
-    "spawn a() Main [/bin/d ] in / silent=false Y=1 UPSTART_EVENTS=go UPSTART_JOB=a UPSTART_INSTANCE=; ";
+# A value of `stop on` expands by the environment in force, which has the variables of the event that started the job.
+%case stop_by_environment_in_force, by another value
+%file a.conf
+start on go
+stop on halt Y=$Y
+exec /bin/d
+%script
+emit go Y=1 #> 1 live, turn
+turn #> 2 live, turn
+#> event starting JOB="a" INSTANCE=""
+turn #> 2 live, turn
+turn #> 1 live
+#> spawn a main "/bin/d"
+#>   Y="1"
+#>   UPSTART_EVENTS="go"
+#>   UPSTART_JOB="a"
+#>   UPSTART_INSTANCE=""
+spawned a "" main 100 #> 2 live, turn
+#> event started JOB="a" INSTANCE=""
+turn #> 1 live, turn
+turn #> 1 live, turn
+turn #> 0 live
+emit halt Y=2 #> 1 live, turn
+turn #> 1 live, turn
+turn #> 0 live
 
-// A value of `stop on` expands by the environment in force, which has the variables of the event that started the job.
-const STOP_BY_ENVIRONMENT_IN_FORCE: &'static [Row] = &[
-    (Given::EmitWith("go", "Y", "1"), "", 1, true),
-    (Given::Turn, STARTING, 2, true),
-    (Given::Turn, "", 2, true),
-    (Given::Turn, SPAWN_WITH_Y, 1, false),
-    (Given::Spawned(100), STARTED, 2, true),
-    (Given::Turn, "", 1, true),
-    (Given::Turn, "", 1, true),
-    (Given::Turn, "", 0, false),
-    (Given::EmitWith("halt", "Y", "2"), "", 1, true),
-    (Given::Turn, "", 1, true),
-    (Given::Turn, "", 0, false),
-];
-
-const STOPPED_BY_VALUE: &'static [Row] = &[
-    (Given::EmitWith("go", "Y", "1"), "", 1, true),
-    (Given::Turn, STARTING, 2, true),
-    (Given::Turn, "", 2, true),
-    (Given::Turn, SPAWN_WITH_Y, 1, false),
-    (Given::Spawned(100), STARTED, 2, true),
-    (Given::Turn, "", 1, true),
-    (Given::Turn, "", 1, true),
-    (Given::Turn, "", 0, false),
-    (Given::EmitWith("halt", "Y", "1"), "", 1, true),
-    (Given::Turn, STOPPING, 2, true),
-    (Given::Turn, "", 2, true),
-];
-
-static CASES: [Case; 5] = [
-    Case {
-        name: "value_by_base",
-        files: &[("a.conf", "start on go X=$X\nexec /bin/d\n")],
-        base: &[("PATH", "/bin"), ("X", "1")],
-        rows: VALUE_BY_BASE,
-    },
-    Case {
-        name: "event_overrides_base",
-        files: &[("a.conf", "start on go\nexec /bin/d\n")],
-        base: &[("PATH", "/bin"), ("X", "1")],
-        rows: EVENT_OVERRIDES_BASE,
-    },
-    Case {
-        name: "later_event_overrides",
-        files: &[("a.conf", "start on A and B\nexec /bin/d\n")],
-        base: &[],
-        rows: LATER_EVENT_OVERRIDES,
-    },
-    Case {
-        name: "stop_by_environment_in_force, by another value",
-        files: &[("a.conf", "start on go\nstop on halt Y=$Y\nexec /bin/d\n")],
-        base: &[],
-        rows: STOP_BY_ENVIRONMENT_IN_FORCE,
-    },
-    Case {
-        name: "stop_by_environment_in_force",
-        files: &[("a.conf", "start on go\nstop on halt Y=$Y\nexec /bin/d\n")],
-        base: &[("Y", "2")],
-        rows: STOPPED_BY_VALUE,
-    },
-];
+%case stop_by_environment_in_force: Y=2
+%file a.conf
+start on go
+stop on halt Y=$Y
+exec /bin/d
+%script
+emit go Y=1 #> 1 live, turn
+turn #> 2 live, turn
+#> event starting JOB="a" INSTANCE=""
+turn #> 2 live, turn
+turn #> 1 live
+#> spawn a main "/bin/d"
+#>   Y="1"
+#>   UPSTART_EVENTS="go"
+#>   UPSTART_JOB="a"
+#>   UPSTART_INSTANCE=""
+spawned a "" main 100 #> 2 live, turn
+#> event started JOB="a" INSTANCE=""
+turn #> 1 live, turn
+turn #> 1 live, turn
+turn #> 0 live
+emit halt Y=1 #> 1 live, turn
+turn #> 2 live, turn
+#> event stopping JOB="a" INSTANCE="" RESULT="ok"
+turn #> 2 live, turn
+"#;
 
 #[test]
 fn base_environments(rt: HostRuntime) -> Result<(), Fail> {
-    check_cases(&rt, rt.alloc(), &CASES)?;
-    Ok(())
+    check_cases(&rt, rt.alloc(), CASES)
 }

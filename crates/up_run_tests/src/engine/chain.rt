@@ -1,5 +1,5 @@
 //! Expressions as deep as a job file may have them.
-use crate::engine::{Given, Row, STARTING, check_file};
+use crate::engine::check_case;
 use std::alloc::{AllocError, Global};
 use std::test::Fail;
 
@@ -17,63 +17,54 @@ fn leaves(alloc: Global, between: &str, last: &str) -> Result<String, AllocError
     Ok(text)
 }
 
-// A job file with the chain `A and A and ..`, which groups to the left.
-fn chain(alloc: Global, last: &str) -> Result<String, AllocError> {
-    let leaves = leaves(alloc, " and ", last)?;
-    let file = format!(in alloc; "start on {}\nexec /bin/d\n", leaves.as_str())?;
-    Ok(file)
-}
-
-// What is spawned if the chain is true by one event a leaf.
-fn spawn(alloc: Global, last: &str) -> Result<String, AllocError> {
+// The case of a job file with the chain `A and A and ..`, which groups to the left, and of these steps. The last one gives what is spawned if
+// the chain is true by one event a leaf.
+fn chain(alloc: Global, name: &str, last: &str, steps: &str) -> Result<String, AllocError> {
+    let expression = leaves(alloc, " and ", last)?;
     let events = leaves(alloc, " ", last)?;
     let text = format!(in alloc;
-        "spawn a() Main [/bin/d ] in / silent=false UPSTART_EVENTS={} UPSTART_JOB=a UPSTART_INSTANCE=; ",
+        r#"{name}
+%file a.conf
+start on {}
+exec /bin/d
+%script
+{steps}#>   UPSTART_EVENTS="{}"
+#>   UPSTART_JOB="a"
+#>   UPSTART_INSTANCE=""
+"#,
+        expression.as_str(),
         events.as_str()
     )?;
     Ok(text)
 }
 
-// The last row gives what is spawned.
-static TRUE_BY_ONE: [Row; 4] = [
-    (Given::Emit("A"), "", 1, true),
-    (Given::Turn, STARTING, 2, true),
-    (Given::Turn, "", 2, true),
-    (Given::Turn, "", 1, false),
-];
+static TRUE_BY_ONE: &str = r#"emit A #> 1 live, turn
+turn #> 2 live, turn
+#> event starting JOB="a" INSTANCE=""
+turn #> 2 live, turn
+turn #> 1 live
+#> spawn a main "/bin/d"
+"#;
 
 #[test]
 fn deepest_chain(rt: HostRuntime) -> Result<(), Fail> {
-    let file = chain(rt.alloc(), "A")?;
-    let spawn = spawn(rt.alloc(), "A")?;
-    let mut rows = TRUE_BY_ONE;
-    rows[3].1 = spawn.as_str();
-    check_file(&rt, rt.alloc(), "deepest_chain", file.as_str(), &rows)?;
-    Ok(())
+    let text = chain(rt.alloc(), "deepest_chain", "A", TRUE_BY_ONE)?;
+    check_case(&rt, rt.alloc(), text.as_str())
 }
 
-// The chain keeps A until it is true. The last row gives what is spawned.
-static TRUE_BY_TWO: [Row; 6] = [
-    (Given::Emit("A"), "", 1, true),
-    (Given::Turn, "", 1, false),
-    (Given::Emit("B"), "", 2, true),
-    (Given::Turn, STARTING, 3, true),
-    (Given::Turn, "", 3, true),
-    (Given::Turn, "", 2, false),
-];
+// The chain keeps A until it is true.
+static TRUE_BY_TWO: &str = r#"emit A #> 1 live, turn
+turn #> 1 live
+emit B #> 2 live, turn
+turn #> 3 live, turn
+#> event starting JOB="a" INSTANCE=""
+turn #> 3 live, turn
+turn #> 2 live
+#> spawn a main "/bin/d"
+"#;
 
 #[test]
 fn deepest_chain_keeps_an_event(rt: HostRuntime) -> Result<(), Fail> {
-    let file = chain(rt.alloc(), "B")?;
-    let spawn = spawn(rt.alloc(), "B")?;
-    let mut rows = TRUE_BY_TWO;
-    rows[5].1 = spawn.as_str();
-    check_file(
-        &rt,
-        rt.alloc(),
-        "deepest_chain_keeps_an_event",
-        file.as_str(),
-        &rows,
-    )?;
-    Ok(())
+    let text = chain(rt.alloc(), "deepest_chain_keeps_an_event", "B", TRUE_BY_TWO)?;
+    check_case(&rt, rt.alloc(), text.as_str())
 }

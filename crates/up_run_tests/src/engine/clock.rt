@@ -1,214 +1,261 @@
 //! Rows of the clock: respawns, normal exits, kill signals and timeouts, step by step.
-use crate::engine::{Case, Given, Row, SPAWN_D, STARTED, STARTING, STOPPING, check_cases};
+use crate::engine::{check_case, check_cases};
 use std::test::Fail;
-use up_model::How;
-
-const STOPPED: &'static str = "stopped JOB=a INSTANCE= RESULT=ok; ";
-
-// The clock doesn't go back, and the timer kills once. What stops the job is held until it has stopped.
-const KILL_TIMEOUT: &'static [Row] = &[
-    (Given::Emit("go"), "", 1, true),
-    (Given::Turn, STARTING, 2, true),
-    (Given::Turn, "", 2, true),
-    (Given::Turn, SPAWN_D, 1, false),
-    (Given::Spawned(100), STARTED, 2, true),
-    (Given::Turn, "", 1, true),
-    (Given::Turn, "", 1, true),
-    (Given::Turn, "", 0, false),
-    (Given::Clock(3_000), "", 0, false),
-    (Given::Clock(1), "", 0, false),
-    (Given::Emit("halt"), "", 1, true),
-    (Given::Turn, STOPPING, 2, true),
-    (Given::Turn, "", 2, true),
-    (Given::Turn, "signal a() 100 15; ", 1, false),
-    (Given::Clock(7_999), "", 1, false),
-    (Given::Clock(8_000), "signal a() 100 9; ", 1, false),
-    (Given::Clock(20_000), "", 1, false),
-    (Given::Ended(How::Signal(9)), STOPPED, 2, true),
-];
-
-// The job's own signal; the clock may read the greatest number.
-const KILL_SIGNAL: &'static [Row] = &[
-    (Given::Emit("go"), "", 1, true),
-    (Given::Turn, STARTING, 2, true),
-    (Given::Turn, "", 2, true),
-    (Given::Turn, SPAWN_D, 1, false),
-    (Given::Spawned(100), STARTED, 2, true),
-    (Given::Turn, "", 1, true),
-    (Given::Turn, "", 1, true),
-    (Given::Turn, "", 0, false),
-    (Given::Emit("halt"), "", 1, true),
-    (Given::Turn, STOPPING, 2, true),
-    (Given::Turn, "", 2, true),
-    (Given::Turn, "signal a() 100 2; ", 1, false),
-    (
-        Given::Clock(18_446_744_073_709_551_615),
-        "signal a() 100 9; ",
-        1,
-        false,
-    ),
-];
-
-const NORMAL_EXIT: &'static [Row] = &[
-    (Given::Emit("go"), "", 1, true),
-    (Given::Turn, STARTING, 2, true),
-    (Given::Turn, "", 2, true),
-    (Given::Turn, SPAWN_D, 1, false),
-    (Given::Spawned(100), STARTED, 2, true),
-    (Given::Turn, "", 1, true),
-    (Given::Turn, "", 1, true),
-    (Given::Turn, "", 0, false),
-    (Given::Ended(How::Exit(3)), STOPPING, 1, true),
-    (Given::Turn, "", 1, true),
-    (Given::Turn, STOPPED, 1, true),
-];
 
 // The third end within five seconds is one too many.
-pub(crate) const RESPAWN_LIMIT: &'static [Row] = &[
-    (Given::Emit("go"), "", 1, true),
-    (Given::Turn, STARTING, 2, true),
-    (Given::Turn, "", 2, true),
-    (Given::Turn, SPAWN_D, 1, false),
-    (Given::Spawned(100), STARTED, 2, true),
-    (Given::Turn, "", 1, true),
-    (Given::Turn, "", 1, true),
-    (Given::Turn, "", 0, false),
-    (Given::Clock(0), "", 0, false),
-    (Given::Ended(How::Exit(1)), STOPPING, 1, true),
-    (Given::Turn, "", 1, true),
-    (Given::Turn, STARTING, 1, true),
-    (Given::Turn, "", 1, true),
-    (Given::Turn, SPAWN_D, 0, false),
-    (Given::Spawned(101), STARTED, 1, true),
-    (Given::Turn, "", 1, true),
-    (Given::Turn, "", 0, false),
-    (Given::Clock(1_000), "", 0, false),
-    (Given::Ended(How::Exit(1)), STOPPING, 1, true),
-    (Given::Turn, "", 1, true),
-    (Given::Turn, STARTING, 1, true),
-    (Given::Turn, "", 1, true),
-    (Given::Turn, SPAWN_D, 0, false),
-    (Given::Spawned(102), STARTED, 1, true),
-    (Given::Turn, "", 1, true),
-    (Given::Turn, "", 0, false),
-    (Given::Clock(2_000), "", 0, false),
-    (
-        Given::Ended(How::Exit(1)),
-        "stopping JOB=a INSTANCE= RESULT=failed PROCESS=respawn; ",
-        1,
-        true,
-    ),
-];
+pub(crate) static RESPAWN_LIMIT: &str = r#"sliding_respawn_limit
+%file a.conf
+start on go
+exec /bin/d
+respawn
+respawn limit 2 5
+%script
+emit go #> 1 live, turn
+turn #> 2 live, turn
+#> event starting JOB="a" INSTANCE=""
+turn #> 2 live, turn
+turn #> 1 live
+#> spawn a main "/bin/d"
+#>   UPSTART_EVENTS="go"
+#>   UPSTART_JOB="a"
+#>   UPSTART_INSTANCE=""
+spawned a "" main 100 #> 2 live, turn
+#> event started JOB="a" INSTANCE=""
+turn #> 1 live, turn
+turn #> 1 live, turn
+turn #> 0 live
+clock 0 #> 0 live
+ended a "" main exit 1 #> 1 live, turn
+#> event stopping JOB="a" INSTANCE="" RESULT="ok"
+turn #> 1 live, turn
+turn #> 1 live, turn
+#> event starting JOB="a" INSTANCE=""
+turn #> 1 live, turn
+turn #> 0 live
+#> spawn a main "/bin/d"
+#>   UPSTART_EVENTS="go"
+#>   UPSTART_JOB="a"
+#>   UPSTART_INSTANCE=""
+spawned a "" main 101 #> 1 live, turn
+#> event started JOB="a" INSTANCE=""
+turn #> 1 live, turn
+turn #> 0 live
+clock 1000 #> 0 live
+ended a "" main exit 1 #> 1 live, turn
+#> event stopping JOB="a" INSTANCE="" RESULT="ok"
+turn #> 1 live, turn
+turn #> 1 live, turn
+#> event starting JOB="a" INSTANCE=""
+turn #> 1 live, turn
+turn #> 0 live
+#> spawn a main "/bin/d"
+#>   UPSTART_EVENTS="go"
+#>   UPSTART_JOB="a"
+#>   UPSTART_INSTANCE=""
+spawned a "" main 102 #> 1 live, turn
+#> event started JOB="a" INSTANCE=""
+turn #> 1 live, turn
+turn #> 0 live
+clock 2000 #> 0 live
+ended a "" main exit 1 #> 1 live, turn
+#> event stopping JOB="a" INSTANCE="" RESULT="failed" PROCESS="respawn"
+"#;
 
-// After five seconds the first respawn counts no longer; 999 milliseconds later the second still does.
-const RESPAWN_LIMIT_SLIDES: &'static [Row] = &[
-    (Given::Emit("go"), "", 1, true),
-    (Given::Turn, STARTING, 2, true),
-    (Given::Turn, "", 2, true),
-    (Given::Turn, SPAWN_D, 1, false),
-    (Given::Spawned(100), STARTED, 2, true),
-    (Given::Turn, "", 1, true),
-    (Given::Turn, "", 1, true),
-    (Given::Turn, "", 0, false),
-    (Given::Clock(0), "", 0, false),
-    (Given::Ended(How::Exit(1)), STOPPING, 1, true),
-    (Given::Turn, "", 1, true),
-    (Given::Turn, STARTING, 1, true),
-    (Given::Turn, "", 1, true),
-    (Given::Turn, SPAWN_D, 0, false),
-    (Given::Spawned(101), STARTED, 1, true),
-    (Given::Turn, "", 1, true),
-    (Given::Turn, "", 0, false),
-    (Given::Clock(1_000), "", 0, false),
-    (Given::Ended(How::Exit(1)), STOPPING, 1, true),
-    (Given::Turn, "", 1, true),
-    (Given::Turn, STARTING, 1, true),
-    (Given::Turn, "", 1, true),
-    (Given::Turn, SPAWN_D, 0, false),
-    (Given::Spawned(102), STARTED, 1, true),
-    (Given::Turn, "", 1, true),
-    (Given::Turn, "", 0, false),
-    (Given::Clock(5_000), "", 0, false),
-    (Given::Ended(How::Exit(1)), STOPPING, 1, true),
-    (Given::Turn, "", 1, true),
-    (Given::Turn, STARTING, 1, true),
-    (Given::Turn, "", 1, true),
-    (Given::Turn, SPAWN_D, 0, false),
-    (Given::Spawned(103), STARTED, 1, true),
-    (Given::Turn, "", 1, true),
-    (Given::Turn, "", 0, false),
-    (Given::Clock(5_999), "", 0, false),
-    (
-        Given::Ended(How::Exit(1)),
-        "stopping JOB=a INSTANCE= RESULT=failed PROCESS=respawn; ",
-        1,
-        true,
-    ),
-];
+static CASES: &str = r#"
+# The clock doesn't go back, and the timer kills once. What stops the job is held until it has stopped.
+%case kill_timeout
+%file a.conf
+start on go
+stop on halt
+exec /bin/d
+%script
+emit go #> 1 live, turn
+turn #> 2 live, turn
+#> event starting JOB="a" INSTANCE=""
+turn #> 2 live, turn
+turn #> 1 live
+#> spawn a main "/bin/d"
+#>   UPSTART_EVENTS="go"
+#>   UPSTART_JOB="a"
+#>   UPSTART_INSTANCE=""
+spawned a "" main 100 #> 2 live, turn
+#> event started JOB="a" INSTANCE=""
+turn #> 1 live, turn
+turn #> 1 live, turn
+turn #> 0 live
+clock 3000 #> 0 live
+clock 1 #> 0 live
+emit halt #> 1 live, turn
+turn #> 2 live, turn
+#> event stopping JOB="a" INSTANCE="" RESULT="ok"
+turn #> 2 live, turn
+turn #> 1 live
+#> signal a 100 TERM
+clock 7999 #> 1 live
+clock 8000 #> 1 live
+#> signal a 100 KILL
+clock 20000 #> 1 live
+ended a "" main signal KILL #> 2 live, turn
+#> event stopped JOB="a" INSTANCE="" RESULT="ok"
 
-// A task isn't respawned once it has succeeded.
-const TASK_THAT_SUCCEEDS: &'static [Row] = &[
-    (Given::Emit("go"), "", 1, true),
-    (Given::Turn, STARTING, 2, true),
-    (Given::Turn, "", 2, true),
-    (Given::Turn, SPAWN_D, 1, false),
-    (Given::Spawned(100), STARTED, 2, true),
-    (Given::Ended(How::Exit(0)), STOPPING, 3, true),
-];
+# The job's own signal; the clock may read the greatest number.
+%case kill_signal
+%file a.conf
+start on go
+stop on halt
+exec /bin/d
+kill signal INT
+kill timeout 2147483647
+%script
+emit go #> 1 live, turn
+turn #> 2 live, turn
+#> event starting JOB="a" INSTANCE=""
+turn #> 2 live, turn
+turn #> 1 live
+#> spawn a main "/bin/d"
+#>   UPSTART_EVENTS="go"
+#>   UPSTART_JOB="a"
+#>   UPSTART_INSTANCE=""
+spawned a "" main 100 #> 2 live, turn
+#> event started JOB="a" INSTANCE=""
+turn #> 1 live, turn
+turn #> 1 live, turn
+turn #> 0 live
+emit halt #> 1 live, turn
+turn #> 2 live, turn
+#> event stopping JOB="a" INSTANCE="" RESULT="ok"
+turn #> 2 live, turn
+turn #> 1 live
+#> signal a 100 INT
+clock 18446744073709551615 #> 1 live
+#> signal a 100 KILL
 
-static CASES: [Case; 6] = [
-    Case {
-        name: "kill_timeout",
-        files: &[("a.conf", "start on go\nstop on halt\nexec /bin/d\n")],
-        base: &[],
-        rows: KILL_TIMEOUT,
-    },
-    Case {
-        name: "kill_signal",
-        files: &[(
-            "a.conf",
-            "start on go\nstop on halt\nexec /bin/d\nkill signal INT\nkill timeout 2147483647\n",
-        )],
-        base: &[],
-        rows: KILL_SIGNAL,
-    },
-    Case {
-        name: "normal_exit",
-        files: &[(
-            "a.conf",
-            "start on go\nexec /bin/d\nrespawn\nnormal exit 3\n",
-        )],
-        base: &[],
-        rows: NORMAL_EXIT,
-    },
-    Case {
-        name: "sliding_respawn_limit",
-        files: &[(
-            "a.conf",
-            "start on go\nexec /bin/d\nrespawn\nrespawn limit 2 5\n",
-        )],
-        base: &[],
-        rows: RESPAWN_LIMIT,
-    },
-    Case {
-        name: "sliding_respawn_limit, later",
-        files: &[(
-            "a.conf",
-            "start on go\nexec /bin/d\nrespawn\nrespawn limit 2 5\n",
-        )],
-        base: &[],
-        rows: RESPAWN_LIMIT_SLIDES,
-    },
-    Case {
-        name: "task_that_succeeds",
-        files: &[("a.conf", "start on go\nexec /bin/d\nrespawn\ntask\n")],
-        base: &[],
-        rows: TASK_THAT_SUCCEEDS,
-    },
-];
+%case normal_exit
+%file a.conf
+start on go
+exec /bin/d
+respawn
+normal exit 3
+%script
+emit go #> 1 live, turn
+turn #> 2 live, turn
+#> event starting JOB="a" INSTANCE=""
+turn #> 2 live, turn
+turn #> 1 live
+#> spawn a main "/bin/d"
+#>   UPSTART_EVENTS="go"
+#>   UPSTART_JOB="a"
+#>   UPSTART_INSTANCE=""
+spawned a "" main 100 #> 2 live, turn
+#> event started JOB="a" INSTANCE=""
+turn #> 1 live, turn
+turn #> 1 live, turn
+turn #> 0 live
+ended a "" main exit 3 #> 1 live, turn
+#> event stopping JOB="a" INSTANCE="" RESULT="ok"
+turn #> 1 live, turn
+turn #> 1 live, turn
+#> event stopped JOB="a" INSTANCE="" RESULT="ok"
+
+# After five seconds the first respawn counts no longer; 999 milliseconds later the second still does.
+%case sliding_respawn_limit, later
+%file a.conf
+start on go
+exec /bin/d
+respawn
+respawn limit 2 5
+%script
+emit go #> 1 live, turn
+turn #> 2 live, turn
+#> event starting JOB="a" INSTANCE=""
+turn #> 2 live, turn
+turn #> 1 live
+#> spawn a main "/bin/d"
+#>   UPSTART_EVENTS="go"
+#>   UPSTART_JOB="a"
+#>   UPSTART_INSTANCE=""
+spawned a "" main 100 #> 2 live, turn
+#> event started JOB="a" INSTANCE=""
+turn #> 1 live, turn
+turn #> 1 live, turn
+turn #> 0 live
+clock 0 #> 0 live
+ended a "" main exit 1 #> 1 live, turn
+#> event stopping JOB="a" INSTANCE="" RESULT="ok"
+turn #> 1 live, turn
+turn #> 1 live, turn
+#> event starting JOB="a" INSTANCE=""
+turn #> 1 live, turn
+turn #> 0 live
+#> spawn a main "/bin/d"
+#>   UPSTART_EVENTS="go"
+#>   UPSTART_JOB="a"
+#>   UPSTART_INSTANCE=""
+spawned a "" main 101 #> 1 live, turn
+#> event started JOB="a" INSTANCE=""
+turn #> 1 live, turn
+turn #> 0 live
+clock 1000 #> 0 live
+ended a "" main exit 1 #> 1 live, turn
+#> event stopping JOB="a" INSTANCE="" RESULT="ok"
+turn #> 1 live, turn
+turn #> 1 live, turn
+#> event starting JOB="a" INSTANCE=""
+turn #> 1 live, turn
+turn #> 0 live
+#> spawn a main "/bin/d"
+#>   UPSTART_EVENTS="go"
+#>   UPSTART_JOB="a"
+#>   UPSTART_INSTANCE=""
+spawned a "" main 102 #> 1 live, turn
+#> event started JOB="a" INSTANCE=""
+turn #> 1 live, turn
+turn #> 0 live
+clock 5000 #> 0 live
+ended a "" main exit 1 #> 1 live, turn
+#> event stopping JOB="a" INSTANCE="" RESULT="ok"
+turn #> 1 live, turn
+turn #> 1 live, turn
+#> event starting JOB="a" INSTANCE=""
+turn #> 1 live, turn
+turn #> 0 live
+#> spawn a main "/bin/d"
+#>   UPSTART_EVENTS="go"
+#>   UPSTART_JOB="a"
+#>   UPSTART_INSTANCE=""
+spawned a "" main 103 #> 1 live, turn
+#> event started JOB="a" INSTANCE=""
+turn #> 1 live, turn
+turn #> 0 live
+clock 5999 #> 0 live
+ended a "" main exit 1 #> 1 live, turn
+#> event stopping JOB="a" INSTANCE="" RESULT="failed" PROCESS="respawn"
+
+# A task isn't respawned once it has succeeded.
+%case task_that_succeeds
+%file a.conf
+start on go
+exec /bin/d
+respawn
+task
+%script
+emit go #> 1 live, turn
+turn #> 2 live, turn
+#> event starting JOB="a" INSTANCE=""
+turn #> 2 live, turn
+turn #> 1 live
+#> spawn a main "/bin/d"
+#>   UPSTART_EVENTS="go"
+#>   UPSTART_JOB="a"
+#>   UPSTART_INSTANCE=""
+spawned a "" main 100 #> 2 live, turn
+#> event started JOB="a" INSTANCE=""
+ended a "" main exit 0 #> 3 live, turn
+#> event stopping JOB="a" INSTANCE="" RESULT="ok"
+"#;
 
 #[test]
 fn respawns_and_timeouts(rt: HostRuntime) -> Result<(), Fail> {
-    check_cases(&rt, rt.alloc(), &CASES)?;
-    Ok(())
+    check_case(&rt, rt.alloc(), RESPAWN_LIMIT)?;
+    check_cases(&rt, rt.alloc(), CASES)
 }

@@ -1,233 +1,186 @@
 //! Rows of environments, exports and instances, step by step.
-use crate::engine::{Case, Given, Row, STARTING, check_cases};
+use crate::engine::check_cases;
 use std::test::Fail;
-use up_model::How;
 
-// An exported key is on each event of the job's life.
-const EXPORTS: &'static [Row] = &[
-    (Given::Emit("go"), "", 1, true),
-    (Given::Turn, "starting JOB=a INSTANCE= X=1; ", 2, true),
-    (Given::Turn, "", 2, true),
-    (
-        Given::Turn,
-        "spawn a() Main [/bin/d ] in / silent=false X=1 UPSTART_EVENTS=go UPSTART_JOB=a UPSTART_INSTANCE=; ",
-        1,
-        false,
-    ),
-    (
-        Given::Spawned(100),
-        "started JOB=a INSTANCE= X=1; ",
-        2,
-        true,
-    ),
-];
+static CASES: &str = r#"
+# An exported key is on each event of the job's life.
+%case exports
+%file a.conf
+start on go
+exec /bin/d
+env X=1
+export X
+%script
+emit go #> 1 live, turn
+turn #> 2 live, turn
+#> event starting JOB="a" INSTANCE="" X="1"
+turn #> 2 live, turn
+turn #> 1 live
+#> spawn a main "/bin/d"
+#>   X="1"
+#>   UPSTART_EVENTS="go"
+#>   UPSTART_JOB="a"
+#>   UPSTART_INSTANCE=""
+spawned a "" main 100 #> 2 live, turn
+#> event started JOB="a" INSTANCE="" X="1"
 
-// A start that waits for the stop comes into force with the next starting, and its exports with it.
-const EXPORTS_ARE_RENEWED: &'static [Row] = &[
-    (Given::EmitWith("go", "X", "1"), "", 1, true),
-    (Given::Turn, "starting JOB=a INSTANCE= X=1; ", 2, true),
-    (Given::Turn, "", 2, true),
-    (
-        Given::Turn,
-        "spawn a() Main [/bin/d ] in / silent=false X=1 UPSTART_EVENTS=go UPSTART_JOB=a UPSTART_INSTANCE=; ",
-        1,
-        false,
-    ),
-    (
-        Given::Spawned(100),
-        "started JOB=a INSTANCE= X=1; ",
-        2,
-        true,
-    ),
-    (Given::Turn, "", 1, true),
-    (Given::Turn, "", 1, true),
-    (Given::Turn, "", 0, false),
-    (Given::EmitWith("go", "X", "2"), "", 1, true),
-    (
-        Given::Turn,
-        "stopping JOB=a INSTANCE= RESULT=ok X=1; ",
-        2,
-        true,
-    ),
-    (Given::Turn, "", 2, true),
-    (Given::Turn, "signal a() 100 15; ", 1, false),
-    (
-        Given::Ended(How::Signal(15)),
-        "starting JOB=a INSTANCE= X=2; ",
-        2,
-        true,
-    ),
-];
+# A start that waits for the stop comes into force with the next starting, and its exports with it.
+%case exports_are_renewed
+%file a.conf
+start on go
+stop on go
+exec /bin/d
+export X
+%script
+emit go X=1 #> 1 live, turn
+turn #> 2 live, turn
+#> event starting JOB="a" INSTANCE="" X="1"
+turn #> 2 live, turn
+turn #> 1 live
+#> spawn a main "/bin/d"
+#>   X="1"
+#>   UPSTART_EVENTS="go"
+#>   UPSTART_JOB="a"
+#>   UPSTART_INSTANCE=""
+spawned a "" main 100 #> 2 live, turn
+#> event started JOB="a" INSTANCE="" X="1"
+turn #> 1 live, turn
+turn #> 1 live, turn
+turn #> 0 live
+emit go X=2 #> 1 live, turn
+turn #> 2 live, turn
+#> event stopping JOB="a" INSTANCE="" RESULT="ok" X="1"
+turn #> 2 live, turn
+turn #> 1 live
+#> signal a 100 TERM
+ended a "" main signal TERM #> 2 live, turn
+#> event starting JOB="a" INSTANCE="" X="2"
 
-// `env KEY` is the value of the base, if it has one.
-const ENV_OF_THE_BASE: &'static [Row] = &[
-    (Given::Emit("go"), "", 1, true),
-    (Given::Turn, STARTING, 2, true),
-    (Given::Turn, "", 2, true),
-    (
-        Given::Turn,
-        "spawn a() Main [/bin/d ] in / silent=false K=b M=1 UPSTART_EVENTS=go UPSTART_JOB=a UPSTART_INSTANCE=; ",
-        1,
-        false,
-    ),
-];
+# `env KEY` is the value of the base, if it has one.
+%case env_of_the_base: K=b
+%file a.conf
+start on go
+exec /bin/d
+env K
+env L
+env M=1
+%script
+emit go #> 1 live, turn
+turn #> 2 live, turn
+#> event starting JOB="a" INSTANCE=""
+turn #> 2 live, turn
+turn #> 1 live
+#> spawn a main "/bin/d"
+#>   K="b"
+#>   M="1"
+#>   UPSTART_EVENTS="go"
+#>   UPSTART_JOB="a"
+#>   UPSTART_INSTANCE=""
 
-// A value of `start on` expands by the environment of the job.
-const VALUE_BY_JOB: &'static [Row] = &[
-    (Given::EmitWith("A", "X", "2"), "", 1, true),
-    (Given::Turn, "", 1, true),
-    (Given::Turn, "", 0, false),
-    (Given::EmitWith("A", "X", "1"), "", 1, true),
-    (Given::Turn, STARTING, 2, true),
-];
+# A value of `start on` expands by the environment of the job.
+%case value_by_job
+%file a.conf
+start on A X=$Z
+exec /bin/d
+env Z=1
+%script
+emit A X=2 #> 1 live, turn
+turn #> 1 live, turn
+turn #> 0 live
+emit A X=1 #> 1 live, turn
+turn #> 2 live, turn
+#> event starting JOB="a" INSTANCE=""
 
-// Without its key there is no start, and the event isn't held. Each instance stops by its own value.
-const INSTANCES: &'static [Row] = &[
-    (Given::Emit("go"), "", 1, true),
-    (Given::Turn, "", 1, true),
-    (Given::Turn, "", 0, false),
-    (Given::EmitWith("go", "TTY", "tty1"), "", 1, true),
-    (Given::Turn, "starting JOB=a INSTANCE=tty1; ", 2, true),
-    (Given::Turn, "", 2, true),
-    (
-        Given::Turn,
-        "spawn a(tty1) Main [/bin/d ] in / silent=false TTY=tty1 UPSTART_EVENTS=go UPSTART_JOB=a UPSTART_INSTANCE=tty1; ",
-        1,
-        false,
-    ),
-    (Given::EmitWith("go", "TTY", "tty0"), "", 2, true),
-    (Given::Turn, "starting JOB=a INSTANCE=tty0; ", 3, true),
-    (Given::Turn, "", 3, true),
-    (
-        Given::Turn,
-        "spawn a(tty0) Main [/bin/d ] in / silent=false TTY=tty0 UPSTART_EVENTS=go UPSTART_JOB=a UPSTART_INSTANCE=tty0; ",
-        2,
-        false,
-    ),
-    (
-        Given::SpawnedIn("tty1", 100),
-        "started JOB=a INSTANCE=tty1; ",
-        3,
-        true,
-    ),
-    (
-        Given::SpawnedIn("tty0", 101),
-        "started JOB=a INSTANCE=tty0; ",
-        4,
-        true,
-    ),
-    (Given::Turn, "", 3, true),
-    (Given::Turn, "", 2, true),
-    (Given::Turn, "", 2, true),
-    (Given::Turn, "", 1, true),
-    (Given::Turn, "", 1, true),
-    (Given::Turn, "", 0, false),
-    (Given::EmitWith("halt", "TTY", "tty0"), "", 1, true),
-    (
-        Given::Turn,
-        "stopping JOB=a INSTANCE=tty0 RESULT=ok; ",
-        2,
-        true,
-    ),
-];
+# Without its key there is no start, and the event isn't held. Each instance stops by its own value.
+%case instances
+%file a.conf
+start on go
+stop on halt TTY=$TTY
+instance $TTY
+exec /bin/d
+%script
+emit go #> 1 live, turn
+turn #> 1 live, turn
+turn #> 0 live
+emit go TTY=tty1 #> 1 live, turn
+turn #> 2 live, turn
+#> event starting JOB="a" INSTANCE="tty1"
+turn #> 2 live, turn
+turn #> 1 live
+#> spawn a (tty1) main "/bin/d"
+#>   TTY="tty1"
+#>   UPSTART_EVENTS="go"
+#>   UPSTART_JOB="a"
+#>   UPSTART_INSTANCE="tty1"
+emit go TTY=tty0 #> 2 live, turn
+turn #> 3 live, turn
+#> event starting JOB="a" INSTANCE="tty0"
+turn #> 3 live, turn
+turn #> 2 live
+#> spawn a (tty0) main "/bin/d"
+#>   TTY="tty0"
+#>   UPSTART_EVENTS="go"
+#>   UPSTART_JOB="a"
+#>   UPSTART_INSTANCE="tty0"
+spawned a tty1 main 100 #> 3 live, turn
+#> event started JOB="a" INSTANCE="tty1"
+spawned a tty0 main 101 #> 4 live, turn
+#> event started JOB="a" INSTANCE="tty0"
+turn #> 3 live, turn
+turn #> 2 live, turn
+turn #> 2 live, turn
+turn #> 1 live, turn
+turn #> 1 live, turn
+turn #> 0 live
+emit halt TTY=tty0 #> 1 live, turn
+turn #> 2 live, turn
+#> event stopping JOB="a" INSTANCE="tty0" RESULT="ok"
 
-// One event that stops all instances stops them in byte order of their names.
-const INSTANCES_IN_ORDER: &'static [Row] = &[
-    (Given::EmitWith("go", "TTY", "tty1"), "", 1, true),
-    (Given::Turn, "starting JOB=a INSTANCE=tty1; ", 2, true),
-    (Given::EmitWith("go", "TTY", "tty0"), "", 3, true),
-    (Given::Turn, "", 3, true),
-    (
-        Given::Turn,
-        "spawn a(tty1) Main [/bin/d ] in / silent=false TTY=tty1 UPSTART_EVENTS=go UPSTART_JOB=a UPSTART_INSTANCE=tty1; ",
-        2,
-        true,
-    ),
-    (Given::Turn, "starting JOB=a INSTANCE=tty0; ", 3, true),
-    (Given::Turn, "", 3, true),
-    (
-        Given::Turn,
-        "spawn a(tty0) Main [/bin/d ] in / silent=false TTY=tty0 UPSTART_EVENTS=go UPSTART_JOB=a UPSTART_INSTANCE=tty0; ",
-        2,
-        false,
-    ),
-    (
-        Given::SpawnedIn("tty1", 100),
-        "started JOB=a INSTANCE=tty1; ",
-        3,
-        true,
-    ),
-    (
-        Given::SpawnedIn("tty0", 101),
-        "started JOB=a INSTANCE=tty0; ",
-        4,
-        true,
-    ),
-    (Given::Turn, "", 3, true),
-    (Given::Turn, "", 2, true),
-    (Given::Turn, "", 2, true),
-    (Given::Turn, "", 1, true),
-    (Given::Turn, "", 1, true),
-    (Given::Turn, "", 0, false),
-    (Given::Emit("down"), "", 1, true),
-    (
-        Given::Turn,
-        "stopping JOB=a INSTANCE=tty0 RESULT=ok; stopping JOB=a INSTANCE=tty1 RESULT=ok; ",
-        3,
-        true,
-    ),
-];
-
-static CASES: [Case; 6] = [
-    Case {
-        name: "exports",
-        files: &[("a.conf", "start on go\nexec /bin/d\nenv X=1\nexport X\n")],
-        base: &[],
-        rows: EXPORTS,
-    },
-    Case {
-        name: "exports_are_renewed",
-        files: &[("a.conf", "start on go\nstop on go\nexec /bin/d\nexport X\n")],
-        base: &[],
-        rows: EXPORTS_ARE_RENEWED,
-    },
-    Case {
-        name: "env_of_the_base",
-        files: &[(
-            "a.conf",
-            "start on go\nexec /bin/d\nenv K\nenv L\nenv M=1\n",
-        )],
-        base: &[("K", "b")],
-        rows: ENV_OF_THE_BASE,
-    },
-    Case {
-        name: "value_by_job",
-        files: &[("a.conf", "start on A X=$Z\nexec /bin/d\nenv Z=1\n")],
-        base: &[],
-        rows: VALUE_BY_JOB,
-    },
-    Case {
-        name: "instances",
-        files: &[(
-            "a.conf",
-            "start on go\nstop on halt TTY=$TTY\ninstance $TTY\nexec /bin/d\n",
-        )],
-        base: &[],
-        rows: INSTANCES,
-    },
-    Case {
-        name: "instances_in_order",
-        files: &[(
-            "a.conf",
-            "start on go\nstop on down\ninstance $TTY\nexec /bin/d\n",
-        )],
-        base: &[],
-        rows: INSTANCES_IN_ORDER,
-    },
-];
+# One event that stops all instances stops them in byte order of their names.
+%case instances_in_order
+%file a.conf
+start on go
+stop on down
+instance $TTY
+exec /bin/d
+%script
+emit go TTY=tty1 #> 1 live, turn
+turn #> 2 live, turn
+#> event starting JOB="a" INSTANCE="tty1"
+emit go TTY=tty0 #> 3 live, turn
+turn #> 3 live, turn
+turn #> 2 live, turn
+#> spawn a (tty1) main "/bin/d"
+#>   TTY="tty1"
+#>   UPSTART_EVENTS="go"
+#>   UPSTART_JOB="a"
+#>   UPSTART_INSTANCE="tty1"
+turn #> 3 live, turn
+#> event starting JOB="a" INSTANCE="tty0"
+turn #> 3 live, turn
+turn #> 2 live
+#> spawn a (tty0) main "/bin/d"
+#>   TTY="tty0"
+#>   UPSTART_EVENTS="go"
+#>   UPSTART_JOB="a"
+#>   UPSTART_INSTANCE="tty0"
+spawned a tty1 main 100 #> 3 live, turn
+#> event started JOB="a" INSTANCE="tty1"
+spawned a tty0 main 101 #> 4 live, turn
+#> event started JOB="a" INSTANCE="tty0"
+turn #> 3 live, turn
+turn #> 2 live, turn
+turn #> 2 live, turn
+turn #> 1 live, turn
+turn #> 1 live, turn
+turn #> 0 live
+emit down #> 1 live, turn
+turn #> 3 live, turn
+#> event stopping JOB="a" INSTANCE="tty0" RESULT="ok"
+#> event stopping JOB="a" INSTANCE="tty1" RESULT="ok"
+"#;
 
 #[test]
 fn environments_and_instances(rt: HostRuntime) -> Result<(), Fail> {
-    check_cases(&rt, rt.alloc(), &CASES)?;
-    Ok(())
+    check_cases(&rt, rt.alloc(), CASES)
 }

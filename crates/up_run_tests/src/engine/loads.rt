@@ -1,172 +1,153 @@
 //! Rows of loads, step by step.
-use crate::engine::{
-    Case, Given, Row, SPAWN_D, START_FILE, STARTED, STARTING, STOPPING, check_cases,
-};
+use crate::engine::check_cases;
 use std::test::Fail;
-use up_model::{Command, How};
 
-// The folder that comes into force has another job, and not this one.
-const OTHER: &'static [(&'static str, &'static str)] = &[("b.conf", "start on go\nexec /bin/b\n")];
+static CASES: &str = r#"
+# A job that was removed goes on, is known while it has an instance, and can't be started.
+%case a job that was removed
+%file a.conf
+start on go
+exec /bin/d
+%folder
+%file b.conf
+start on go
+exec /bin/b
+%script
+emit go #> 1 live, turn
+turn #> 2 live, turn
+#> event starting JOB="a" INSTANCE=""
+turn #> 2 live, turn
+turn #> 1 live
+#> spawn a main "/bin/d"
+#>   UPSTART_EVENTS="go"
+#>   UPSTART_JOB="a"
+#>   UPSTART_INSTANCE=""
+spawned a "" main 100 #> 2 live, turn
+#> event started JOB="a" INSTANCE=""
+turn #> 1 live, turn
+turn #> 1 live, turn
+turn #> 0 live
+load 1 #> 0 live
+#> reply 1 ok ""
+request 2 list #> 0 live
+#> reply 2 ok "a start/running, process 100\nb stop/waiting"
+request 3 start a #> 0 live
+#> reply 3 failed "Unknown job: a"
+request 4 stop a #> 1 live, turn
+#> event stopping JOB="a" INSTANCE="" RESULT="ok"
+turn #> 1 live, turn
+turn #> 0 live
+#> signal a 100 TERM
+ended a "" main signal TERM #> 1 live, turn
+#> event stopped JOB="a" INSTANCE="" RESULT="ok"
+#> reply 4 ok "a stop/waiting"
+request 5 status a #> 1 live, turn
+#> reply 5 failed "Unknown job: a"
+request 6 list #> 1 live, turn
+#> reply 6 ok "b stop/waiting"
 
-// A job that was removed goes on, is known while it has an instance, and can't be started.
-const REMOVED: &'static [Row] = &[
-    (Given::Emit("go"), "", 1, true),
-    (Given::Turn, STARTING, 2, true),
-    (Given::Turn, "", 2, true),
-    (Given::Turn, SPAWN_D, 1, false),
-    (Given::Spawned(100), STARTED, 2, true),
-    (Given::Turn, "", 1, true),
-    (Given::Turn, "", 1, true),
-    (Given::Turn, "", 0, false),
-    (Given::Load(1, OTHER), "reply 1 ok=true ; ", 0, false),
-    (
-        Given::Ask(2, Command::List, ""),
-        "reply 2 ok=true a start/running, process 100\nb stop/waiting; ",
-        0,
-        false,
-    ),
-    (
-        Given::Ask(3, Command::Start, "a"),
-        "reply 3 ok=false Unknown job: a; ",
-        0,
-        false,
-    ),
-    (Given::Ask(4, Command::Stop, "a"), STOPPING, 1, true),
-    (Given::Turn, "", 1, true),
-    (Given::Turn, "signal a() 100 15; ", 0, false),
-    (
-        Given::Ended(How::Signal(15)),
-        "stopped JOB=a INSTANCE= RESULT=ok; reply 4 ok=true a stop/waiting; ",
-        1,
-        true,
-    ),
-    (
-        Given::Ask(5, Command::Status, "a"),
-        "reply 5 ok=false Unknown job: a; ",
-        1,
-        true,
-    ),
-    (
-        Given::Ask(6, Command::List, ""),
-        "reply 6 ok=true b stop/waiting; ",
-        1,
-        true,
-    ),
-];
+# What a `start on` had seen is forgotten, though the file is the same.
+%case a start on that had seen an event
+%file a.conf
+start on A and B
+exec /bin/d
+%folder
+%file a.conf
+start on A and B
+exec /bin/d
+%script
+emit A #> 1 live, turn
+turn #> 1 live
+load 1 #> 1 live, turn
+#> reply 1 ok ""
+turn #> 0 live
+emit B #> 1 live, turn
+turn #> 1 live
+turn #> 1 live
 
-const BOTH: &'static [(&'static str, &'static str)] = &[(
-    "a.conf",
-    "start on A and B\nexec /bin/d\n",
-)];
+# What isn't loaded changes nothing: after it the steps are those of `startup`.
+%case loads that aren't carried out
+%file a.conf
+start on startup
+exec /bin/true x
+%script
+load 1 refused 32 #> 0 live
+#> reply 1 failed "Configuration refused: 32"
+load 2 unread #> 0 live
+#> reply 2 failed "Configuration not read"
+emit startup #> 1 live, turn
+turn #> 2 live, turn
+#> event starting JOB="a" INSTANCE=""
+turn #> 2 live, turn
+turn #> 1 live
+#> spawn a main "/bin/true" "x"
+#>   UPSTART_EVENTS="startup"
+#>   UPSTART_JOB="a"
+#>   UPSTART_INSTANCE=""
 
-// What a `start on` had seen is forgotten, though the file is the same.
-const FORGOTTEN: &'static [Row] = &[
-    (Given::Emit("A"), "", 1, true),
-    (Given::Turn, "", 1, false),
-    (Given::Load(1, BOTH), "reply 1 ok=true ; ", 1, true),
-    (Given::Turn, "", 0, false),
-    (Given::Emit("B"), "", 1, true),
-    (Given::Turn, "", 1, false),
-    (Given::Turn, "", 1, false),
-];
-
-// What isn't loaded changes nothing: after it the steps are those of `startup`.
-const REFUSED: &'static [Row] = &[
-    (
-        Given::LoadRefused(1, 32),
-        "reply 1 ok=false Configuration refused: 32; ",
-        0,
-        false,
-    ),
-    (
-        Given::LoadUnread(2),
-        "reply 2 ok=false Configuration not read; ",
-        0,
-        false,
-    ),
-    (Given::Emit("startup"), "", 1, true),
-    (Given::Turn, STARTING, 2, true),
-    (Given::Turn, "", 2, true),
-    (
-        Given::Turn,
-        "spawn a() Main [/bin/true x ] in / silent=false UPSTART_EVENTS=startup UPSTART_JOB=a UPSTART_INSTANCE=; ",
-        1,
-        false,
-    ),
-];
-
-const NEW_FILE: &'static [(&'static str, &'static str)] = &[(
-    "a.conf",
-    "start on go\nstop on halt\nrespawn\nexec /bin/e\n",
-)];
-
-const SPAWN_E: &'static str =
-    "spawn a() Main [/bin/e ] in / silent=false UPSTART_EVENTS=go UPSTART_JOB=a UPSTART_INSTANCE=; ";
-
-// An instance goes by the file by which it was made until it is over. The next one has the new file.
-const OWN_FILE: &'static [Row] = &[
-    (Given::Emit("go"), "", 1, true),
-    (Given::Turn, STARTING, 2, true),
-    (Given::Turn, "", 2, true),
-    (Given::Turn, SPAWN_D, 1, false),
-    (Given::Spawned(100), STARTED, 2, true),
-    (Given::Turn, "", 1, true),
-    (Given::Turn, "", 1, true),
-    (Given::Turn, "", 0, false),
-    (Given::Load(1, NEW_FILE), "reply 1 ok=true ; ", 0, false),
-    // the new file's `stop on` isn't the instance's
-    (Given::Emit("halt"), "", 1, true),
-    (Given::Turn, "", 1, true),
-    (Given::Turn, "", 0, false),
-    // and it doesn't respawn
-    (Given::Ended(How::Exit(0)), STOPPING, 1, true),
-    (Given::Turn, "", 1, true),
-    (Given::Turn, "stopped JOB=a INSTANCE= RESULT=ok; ", 1, true),
-    (Given::Turn, "", 1, true),
-    (Given::Turn, "", 0, false),
-    (Given::Emit("go"), "", 1, true),
-    (Given::Turn, STARTING, 2, true),
-    (Given::Turn, "", 2, true),
-    (Given::Turn, SPAWN_E, 1, false),
-    (Given::Spawned(101), STARTED, 2, true),
-    (Given::Turn, "", 1, true),
-    (Given::Turn, "", 1, true),
-    (Given::Turn, "", 0, false),
-    // it respawns
-    (Given::Ended(How::Exit(0)), STOPPING, 1, true),
-    (Given::Turn, "", 1, true),
-    (Given::Turn, STARTING, 1, true),
-];
-
-static CASES: [Case; 4] = [
-    Case {
-        name: "a job that was removed",
-        files: &[("a.conf", "start on go\nexec /bin/d\n")],
-        base: &[],
-        rows: REMOVED,
-    },
-    Case {
-        name: "a start on that had seen an event",
-        files: BOTH,
-        base: &[],
-        rows: FORGOTTEN,
-    },
-    Case {
-        name: "loads that aren't carried out",
-        files: &[("a.conf", START_FILE)],
-        base: &[],
-        rows: REFUSED,
-    },
-    Case {
-        name: "an instance with its own file",
-        files: &[("a.conf", "start on go\nexec /bin/d\n")],
-        base: &[],
-        rows: OWN_FILE,
-    },
-];
+# An instance goes by the file by which it was made until it is over. The next one has the new file.
+%case an instance with its own file
+%file a.conf
+start on go
+exec /bin/d
+%folder
+%file a.conf
+start on go
+stop on halt
+respawn
+exec /bin/e
+%script
+emit go #> 1 live, turn
+turn #> 2 live, turn
+#> event starting JOB="a" INSTANCE=""
+turn #> 2 live, turn
+turn #> 1 live
+#> spawn a main "/bin/d"
+#>   UPSTART_EVENTS="go"
+#>   UPSTART_JOB="a"
+#>   UPSTART_INSTANCE=""
+spawned a "" main 100 #> 2 live, turn
+#> event started JOB="a" INSTANCE=""
+turn #> 1 live, turn
+turn #> 1 live, turn
+turn #> 0 live
+load 1 #> 0 live
+#> reply 1 ok ""
+# the new file's `stop on` isn't the instance's
+emit halt #> 1 live, turn
+turn #> 1 live, turn
+turn #> 0 live
+# and it doesn't respawn
+ended a "" main exit 0 #> 1 live, turn
+#> event stopping JOB="a" INSTANCE="" RESULT="ok"
+turn #> 1 live, turn
+turn #> 1 live, turn
+#> event stopped JOB="a" INSTANCE="" RESULT="ok"
+turn #> 1 live, turn
+turn #> 0 live
+emit go #> 1 live, turn
+turn #> 2 live, turn
+#> event starting JOB="a" INSTANCE=""
+turn #> 2 live, turn
+turn #> 1 live
+#> spawn a main "/bin/e"
+#>   UPSTART_EVENTS="go"
+#>   UPSTART_JOB="a"
+#>   UPSTART_INSTANCE=""
+spawned a "" main 101 #> 2 live, turn
+#> event started JOB="a" INSTANCE=""
+turn #> 1 live, turn
+turn #> 1 live, turn
+turn #> 0 live
+# it respawns
+ended a "" main exit 0 #> 1 live, turn
+#> event stopping JOB="a" INSTANCE="" RESULT="ok"
+turn #> 1 live, turn
+turn #> 1 live, turn
+#> event starting JOB="a" INSTANCE=""
+"#;
 
 #[test]
 fn loads(rt: HostRuntime) -> Result<(), Fail> {
-    check_cases(&rt, rt.alloc(), &CASES)?;
-    Ok(())
+    check_cases(&rt, rt.alloc(), CASES)
 }

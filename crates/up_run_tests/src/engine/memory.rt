@@ -4,100 +4,67 @@
 //! `rt try --test --fail-alloc N -- engine::memory` refuses the Nth request; `bench/faults` goes through all of them with the built tests.
 use crate::engine::clock::RESPAWN_LIMIT;
 use crate::engine::{
-    Case, Given, REQUESTS, Row, START_FILE, STARTED, STARTING, STARTUP, Untried, engine, inputs,
-    shown,
+    Case, REQUESTS, STARTUP, Untried, case_of, engine, expected, inputs, push_outputs, rows,
 };
-use std::alloc::Global;
+use std::alloc::{AllocError, Global};
 use std::test::Fail;
 use up_engine::{Engine, Run, StepError};
-use up_model::{How, Input, Step};
-use up_text::Env;
+use up_model::{Input, Output, Step};
+use up_text::{Env, as_text};
 
 // The job is started by a request only, since the event has no variable by which its instance could be named.
-const INSTANCE_NAMES: &'static [Row] = &[
-    (Given::Emit("go"), "", 1, true),
-    (Given::Turn, "", 1, true),
-    (Given::Turn, "", 0, false),
-    (
-        Given::StartWith(1, &[]),
-        "reply 1 ok=false Unknown parameter: TTY; ",
-        0,
-        false,
-    ),
-    (
-        Given::StartWith(2, &[("TTY", "tty1")]),
-        "starting JOB=a INSTANCE=tty1; ",
-        1,
-        true,
-    ),
-    (Given::Turn, "", 1, true),
-    (
-        Given::Turn,
-        "spawn a(tty1) Main [/bin/g ] in / silent=false TTY=tty1 UPSTART_JOB=a UPSTART_INSTANCE=tty1; ",
-        0,
-        false,
-    ),
-    (
-        Given::SpawnedIn("tty1", 100),
-        "started JOB=a INSTANCE=tty1; reply 2 ok=true a (tty1) start/running, process 100; ",
-        1,
-        true,
-    ),
-];
+static INSTANCE_NAMES: &str = r#"instance_names
+%file a.conf
+start on go
+instance $TTY
+exec /bin/g
+%script
+emit go #> 1 live, turn
+turn #> 1 live, turn
+turn #> 0 live
+request 1 start a #> 0 live
+#> reply 1 failed "Unknown parameter: TTY"
+request 2 start a TTY=tty1 #> 1 live, turn
+#> event starting JOB="a" INSTANCE="tty1"
+turn #> 1 live, turn
+turn #> 0 live
+#> spawn a (tty1) main "/bin/g"
+#>   TTY="tty1"
+#>   UPSTART_JOB="a"
+#>   UPSTART_INSTANCE="tty1"
+spawned a tty1 main 100 #> 1 live, turn
+#> event started JOB="a" INSTANCE="tty1"
+#> reply 2 ok "a (tty1) start/running, process 100"
+"#;
 
-const FAILING_TASK: &'static [Row] = &[
-    (Given::StartWith(1, &[]), STARTING, 1, true),
-    (Given::Turn, "", 1, true),
-    (
-        Given::Turn,
-        "spawn a() Main [/bin/t ] in / silent=false UPSTART_JOB=a UPSTART_INSTANCE=; ",
-        0,
-        false,
-    ),
-    (Given::Spawned(100), STARTED, 1, true),
-    (
-        Given::Ended(How::Exit(1)),
-        "reply 1 ok=false Job failed to start; stopping JOB=a INSTANCE= RESULT=failed PROCESS=main EXIT_STATUS=1; ",
-        2,
-        true,
-    ),
-];
+static FAILING_TASK: &str = r#"failing_task
+%file a.conf
+task
+exec /bin/t
+%script
+request 1 start a #> 1 live, turn
+#> event starting JOB="a" INSTANCE=""
+turn #> 1 live, turn
+turn #> 0 live
+#> spawn a main "/bin/t"
+#>   UPSTART_JOB="a"
+#>   UPSTART_INSTANCE=""
+spawned a "" main 100 #> 1 live, turn
+#> event started JOB="a" INSTANCE=""
+ended a "" main exit 1 #> 2 live, turn
+#> reply 1 failed "Job failed to start"
+#> event stopping JOB="a" INSTANCE="" RESULT="failed" PROCESS="main" EXIT_STATUS="1"
+"#;
 
-static CASES: [Case; 5] = [
-    Case {
-        name: "startup",
-        files: &[("a.conf", START_FILE)],
-        base: &[],
-        rows: STARTUP,
-    },
-    Case {
-        name: "refused_main",
-        files: &[("a.conf", START_FILE)],
-        base: &[],
-        rows: REQUESTS,
-    },
-    Case {
-        name: "sliding_respawn_limit",
-        files: &[(
-            "a.conf",
-            "start on go\nexec /bin/d\nrespawn\nrespawn limit 2 5\n",
-        )],
-        base: &[],
-        rows: RESPAWN_LIMIT,
-    },
-    Case {
-        name: "instance_names",
-        files: &[("a.conf", "start on go\ninstance $TTY\nexec /bin/g\n")],
-        base: &[],
-        rows: INSTANCE_NAMES,
-    },
-    Case {
-        name: "failing_task",
-        files: &[("a.conf", "task\nexec /bin/t\n")],
-        base: &[],
-        rows: FAILING_TASK,
-    },
-];
+fn cases() -> [&'static str; 5] {
+    [
+        STARTUP,
+        REQUESTS,
+        RESPAWN_LIMIT,
+        INSTANCE_NAMES,
+        FAILING_TASK,
+    ]
+}
 
 // What came of a run. Where memory is refused in its midst, its steps are the first of the row's, and the engine is down; if it is refused
 // before, nothing has happened, and a second run is whole.
@@ -108,31 +75,49 @@ enum Outcome {
     Otherwise,
 }
 
-fn is_step(alloc: Global, step: &Step, outputs: &str) -> Result<bool, Untried> {
+fn are_printed(alloc: Global, outputs: &[Output], lines: &str) -> Result<bool, AllocError> {
+    let mut text: Vec<u8> = Vec::new(alloc);
+    push_outputs(&mut text, outputs)?;
+    match as_text(text.as_slice()) {
+        Some(made) => Ok(made == lines),
+        None => Ok(false),
+    }
+}
+
+fn is_step(alloc: Global, step: &Step, row: &str) -> Result<bool, AllocError> {
+    let (_, lines) = row.split_once('\n').unwrap_or((row, ""));
     match step {
-        Step::Gave(gave) => {
-            let text = shown(alloc, gave.as_slice())?;
-            Ok(text.as_str() == outputs)
-        }
+        Step::Gave(outputs) => are_printed(alloc, outputs.as_slice(), lines),
         Step::NotExpected => Ok(false),
     }
 }
 
 // Whether the steps are the first of the rows.
-fn are_steps(alloc: Global, steps: &[Step], rows: &[Row]) -> Result<bool, Untried> {
+fn are_steps(alloc: Global, steps: &[Step], rows: &[&str]) -> Result<bool, AllocError> {
     for (step, row) in steps.iter().zip(rows) {
-        if !is_step(alloc, step, row.1)? {
+        if !is_step(alloc, step, row)? {
             return Ok(false);
         }
     }
     Ok(steps.len() <= rows.len())
 }
 
+// Whether an engine has the live events and the turn of a row. Takes no memory.
+fn is_state(engine: &Engine, row: &str) -> bool {
+    match row.split_once(" live") {
+        Some((live, rest)) => {
+            live.parse::<usize>() == Ok(engine.live_events())
+                && rest.starts_with(", turn\n") == engine.has_turn()
+        }
+        None => false,
+    }
+}
+
 // Whether an engine has the live events and the turn that the rows leave.
-fn is_left(engine: &Engine, rows: &[Row]) -> bool {
+fn is_left(engine: &Engine, rows: &[&str]) -> bool {
     match rows.last() {
-        Some(row) => engine.live_events() == row.2 && engine.has_turn() == row.3,
-        None => engine.live_events() == 0 && !engine.has_turn(),
+        Some(row) => is_state(engine, row),
+        None => is_state(engine, "0 live\n"),
     }
 }
 
@@ -158,7 +143,7 @@ fn came_of(
     alloc: Global,
     engine: &mut Engine,
     run: &Run,
-    rows: &[Row],
+    rows: &[&str],
 ) -> Result<Outcome, Untried> {
     let steps = run.steps.as_slice();
     let count = steps.len().min(rows.len());
@@ -175,9 +160,13 @@ fn came_of(
     Ok(Outcome::Otherwise)
 }
 
-fn run_once(alloc: Global, engine: &mut Engine, rows: &[Row]) -> Result<Option<Outcome>, Untried> {
-    let inputs = inputs(alloc, rows)?;
-    match engine.run(inputs) {
+fn run_once(
+    alloc: Global,
+    engine: &mut Engine,
+    case: &Case,
+    rows: &[&str],
+) -> Result<Option<Outcome>, Untried> {
+    match engine.run(inputs(alloc, case)?) {
         Ok(run) => {
             let outcome = came_of(alloc, engine, &run, rows);
             drop(run);
@@ -189,32 +178,36 @@ fn run_once(alloc: Global, engine: &mut Engine, rows: &[Row]) -> Result<Option<O
 }
 
 // A run that was refused before its first step has changed nothing: the next one is as if it were the first.
-fn run_with(alloc: Global, engine: &mut Engine, rows: &[Row]) -> Result<Outcome, Untried> {
-    if let Some(outcome) = run_once(alloc, engine, rows)? {
+fn run_with(
+    alloc: Global,
+    engine: &mut Engine,
+    case: &Case,
+    rows: &[&str],
+) -> Result<Outcome, Untried> {
+    if let Some(outcome) = run_once(alloc, engine, case, rows)? {
         return Ok(outcome);
     }
-    match run_once(alloc, engine, rows)? {
+    match run_once(alloc, engine, case, rows)? {
         Some(Outcome::Whole) => Ok(Outcome::Refused),
         _ => Ok(Outcome::Otherwise),
     }
 }
 
-fn run_case(alloc: Global, case: &Case) -> Result<Outcome, Untried> {
-    let mut engine = engine(alloc, case.files, case.base)?;
-    let outcome = run_with(alloc, &mut engine, case.rows);
+fn run_case(alloc: Global, text: &str) -> Result<Outcome, Untried> {
+    let case = case_of(text);
+    let expected = expected(alloc, &case)?;
+    let rows = rows(alloc, expected.as_str())?;
+    let mut engine = engine(alloc, &case)?;
+    let outcome = run_with(alloc, &mut engine, &case, rows.as_slice());
     drop(engine);
     outcome
 }
 
 #[test]
 fn always_memory(rt: HostRuntime) -> Result<(), Fail> {
-    for case in &CASES {
-        assert_eq!(rt;
-            run_case(rt.alloc(), case)?,
-            Outcome::Whole,
-            "{}",
-            case.name
-        );
+    for text in cases() {
+        let name = case_of(text).name;
+        assert_eq!(rt; run_case(rt.alloc(), text)?, Outcome::Whole, "{name}");
     }
     Ok(())
 }
@@ -231,10 +224,11 @@ fn told(came: Result<Outcome, Untried>) -> &'static str {
 
 #[test]
 fn memory_refused(rt: HostRuntime) -> Result<(), Fail> {
-    for case in &CASES {
-        let told = told(run_case(rt.alloc(), case));
-        println!(rt; "{}: {told}", case.name)?;
-        assert!(rt; told != "otherwise", "{}", case.name);
+    for text in cases() {
+        let name = case_of(text).name;
+        let told = told(run_case(rt.alloc(), text));
+        println!(rt; "{name}: {told}")?;
+        assert!(rt; told != "otherwise", "{name}");
     }
     Ok(())
 }

@@ -1,30 +1,32 @@
 //! What an engine tells of its instances between two steps.
-use crate::engine::{Untried, engine};
+use crate::engine::{Case, Untried, engine, inputs};
 use std::alloc::Global;
 use std::test::Fail;
 use up_engine::Engine;
-use up_model::{Command, Input, Request};
-use up_text::{Env, Text};
+use up_text::Env;
 
-fn hurried(alloc: Global, id: u64, command: Command) -> Result<Input, Untried> {
-    let name = Text::from_str(alloc, "a")?;
-    match Request::new(command, false, name, Env::new(alloc)) {
-        Some(request) => Ok(Input::Request { id, request }),
-        None => Err(Untried),
-    }
-}
+// Leaves the job `a` starting, as it was started and stopped.
+static HURRIED: Case = Case {
+    name: "status_and_list",
+    base: "",
+    bundle: r#"%file a.conf
+start on go
+exec /bin/d
+%script
+request 4 start --no-wait a
+request 7 stop --no-wait a
+"#,
+};
 
-// The requests that leave the job `a` starting, as it was started and stopped.
-static HURRIED: [(u64, Command); 2] = [(4, Command::Start), (7, Command::Stop)];
-
-fn stop(alloc: Global, engine: &mut Engine) -> Result<(), Untried> {
-    for (id, command) in &HURRIED {
-        match engine.step(hurried(alloc, *id, *command)?) {
-            Ok(outputs) => drop(outputs),
-            Err(_) => return Err(Untried),
+fn hurry(alloc: Global, engine: &mut Engine) -> Result<(), Untried> {
+    match engine.run(inputs(alloc, &HURRIED)?) {
+        Ok(run) => {
+            let down = run.down;
+            drop(run);
+            if down { Err(Untried) } else { Ok(()) }
         }
+        Err(_) => Err(Untried),
     }
-    Ok(())
 }
 
 // Whether the engine tells this of the job, alone and in its list.
@@ -41,12 +43,12 @@ fn tells(alloc: Global, engine: &Engine, wanted: &str) -> (bool, bool) {
 }
 
 fn told(alloc: Global, engine: &mut Engine) -> Result<(bool, bool), Untried> {
-    stop(alloc, engine)?;
+    hurry(alloc, engine)?;
     Ok(tells(alloc, engine, "a stop/starting"))
 }
 
 fn told_of_one(alloc: Global) -> Result<(bool, bool), Untried> {
-    let mut engine = engine(alloc, &[("a.conf", "start on go\nexec /bin/d\n")], &[])?;
+    let mut engine = engine(alloc, &HURRIED)?;
     let told = told(alloc, &mut engine);
     drop(engine);
     told

@@ -43,12 +43,9 @@ fn push_request(
     alloc: Global,
     inputs: &mut Vec<Input>,
     name: &str,
-    value: &str,
+    pair: &str,
 ) -> Result<(), Fail> {
-    let (name, vars) = both(
-        Text::from_str(alloc, name),
-        environment(alloc, &[("K", value)]),
-    )?;
+    let (name, vars) = both(Text::from_str(alloc, name), environment(alloc, pair))?;
     if let Some(request) = Request::new(Command::Start, true, name, vars) {
         inputs.push(Input::Request { id: 1, request })?;
     }
@@ -59,10 +56,10 @@ fn has_lines(alloc: Global, inputs: &[Input]) -> Result<bool, Fail> {
     Ok(script_lines(alloc, inputs)?.is_some())
 }
 
-// Whether a script has a line for a request for this job with this value.
-fn is_written(alloc: Global, name: &str, value: &str) -> Result<bool, Fail> {
+// Whether a script has a line for a request for this job with this variable.
+fn is_written(alloc: Global, name: &str, pair: &str) -> Result<bool, Fail> {
     let mut inputs: Vec<Input> = Vec::new(alloc);
-    let has = match push_request(alloc, &mut inputs, name, value) {
+    let has = match push_request(alloc, &mut inputs, name, pair) {
         Ok(()) => has_lines(alloc, inputs.as_slice()),
         Err(fail) => Err(fail),
     };
@@ -73,9 +70,9 @@ fn is_written(alloc: Global, name: &str, value: &str) -> Result<bool, Fail> {
 // A line feed in quotes is read as a blank, and a name that is written as an option is read as one.
 #[test]
 fn what_no_line_says_is_not_written(rt: HostRuntime) -> Result<(), Fail> {
-    assert_eq!(rt; is_written(rt.alloc(), "a", "b c")?, true);
-    assert_eq!(rt; is_written(rt.alloc(), "a", "b\nc")?, false);
-    assert_eq!(rt; is_written(rt.alloc(), "--no-wait", "b c")?, false);
+    assert_eq!(rt; is_written(rt.alloc(), "a", "K=b c")?, true);
+    assert_eq!(rt; is_written(rt.alloc(), "a", "K=b\nc")?, false);
+    assert_eq!(rt; is_written(rt.alloc(), "--no-wait", "K=b c")?, false);
     Ok(())
 }
 

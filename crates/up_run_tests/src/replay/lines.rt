@@ -10,7 +10,7 @@ use up_text::{Items, Name, Text};
 enum Sent {
     Start,
     Signal(u8),
-    Event(&'static [(&'static str, &'static str)]),
+    Event(&'static str),
     Reply(bool),
 }
 
@@ -29,10 +29,10 @@ static CASES: [(&str, Sent, &str); 11] = [
     ("signals", Sent::Signal(255), "signal a (i) 7 255\n"),
     (
         "events",
-        Sent::Event(&[("K", "a\tb"), ("L", "")]),
+        Sent::Event("K=a\tb, L="),
         "event go K=\"a\\tb\" L=\"\"\n",
     ),
-    ("events", Sent::Event(&[]), "event go\n"),
+    ("events", Sent::Event(""), "event go\n"),
     (
         "replies",
         Sent::Reply(true),
@@ -47,7 +47,7 @@ static CASES: [(&str, Sent, &str); 11] = [
 
 static WORDS: [&str; 3] = ["/bin/x", "\"a\\b\nc\td\u{e9}'\r", ""];
 
-static VARS: [(&str, &str); 2] = [("B", "1\n2"), ("A", "")];
+static VARS: &str = "B=1\n2, A=";
 
 fn who(alloc: Global, instance: &str) -> Result<Who, Untried> {
     let (job, instance) = both(Name::new(alloc, "a"), Text::from_str(alloc, instance))?;
@@ -79,7 +79,7 @@ fn words(alloc: Global) -> Result<Items<Text>, AllocError> {
 
 fn order(alloc: Global) -> Result<Output, Untried> {
     let first = both(who(alloc, "i j"), words(alloc));
-    let second = both(Text::from_str(alloc, "/"), environment(alloc, &VARS));
+    let second = both(Text::from_str(alloc, "/"), environment(alloc, VARS));
     let ((who, argv), (dir, env)) = both(first, second)?;
     Ok(Output::Spawn(Order {
         who,
@@ -91,7 +91,7 @@ fn order(alloc: Global) -> Result<Output, Untried> {
     }))
 }
 
-fn event(alloc: Global, pairs: &[(&str, &str)]) -> Result<Output, Untried> {
+fn event(alloc: Global, pairs: &str) -> Result<Output, Untried> {
     let (name, vars) = both(Name::new(alloc, "go"), environment(alloc, pairs))?;
     Ok(Output::Emitted(Event { name, vars }))
 }
