@@ -99,17 +99,20 @@ fn gives_named(alloc: Global, folder: &Folder, named: &[(&str, bool)], faulty: &
     }
 }
 
-// Whether the folder of these files does.
-fn are_named(
+fn check_named(
     alloc: Global,
     files: &[(&str, &[u8])],
     named: &[(&str, bool)],
     faulty: &[&str],
-) -> Result<bool, AllocError> {
+) -> Result<(), Fail> {
     let folder = folder_of(alloc, files)?;
     let gives = gives_named(alloc, &folder, named, faulty);
     drop(folder);
-    Ok(gives)
+    if gives {
+        Ok(())
+    } else {
+        Err(Fail::from("other jobs or faults"))
+    }
 }
 
 // Five jobs, of which `a` has an override, and two faulty files.
@@ -143,9 +146,8 @@ const NO_JOBS: &'static [(&'static str, &'static [u8])] = &[
 // An empty folder has no job.
 #[test]
 fn a_table_lends_its_jobs_by_name(rt: HostRuntime) -> Result<(), Fail> {
-    assert!(rt; are_named(rt.alloc(), FIVE_JOBS, BY_NAME, FAULTY)?);
-    assert!(rt; are_named(rt.alloc(), NO_JOBS, &[], &[])?);
-    Ok(())
+    check_named(rt.alloc(), FIVE_JOBS, BY_NAME, FAULTY)?;
+    check_named(rt.alloc(), NO_JOBS, &[], &[])
 }
 
 // Whether a folder gives so many jobs and faults.
@@ -163,14 +165,7 @@ fn gives(alloc: Global, folder: &Folder, jobs: usize, faults: usize) -> bool {
 
 // Whether a folder is refused for this.
 fn is_refused(alloc: Global, folder: &Folder, error: CompileError) -> bool {
-    match compile(alloc, folder) {
-        Ok((table, report)) => {
-            drop(table);
-            drop(report);
-            false
-        }
-        Err(found) => found == error,
-    }
+    compile(alloc, folder).err() == Some(error)
 }
 
 // Adds files whose paths are numbers and this end.
@@ -210,8 +205,11 @@ fn a_table_has_1024_jobs(rt: HostRuntime) -> Result<(), Fail> {
     let mut folder = Folder::new(rt.alloc());
     let most = are_the_most(rt.alloc(), &mut folder);
     drop(folder);
-    assert!(rt; most?);
-    Ok(())
+    if most? {
+        Ok(())
+    } else {
+        Err(Fail::from("more jobs, or fewer"))
+    }
 }
 
 // Whether 65,535 files, and one that stands twice, are refused for it.
@@ -229,8 +227,11 @@ fn many_files_are_compared(rt: HostRuntime) -> Result<(), Fail> {
     let mut folder = Folder::new(rt.alloc());
     let compared = are_compared(rt.alloc(), &mut folder);
     drop(folder);
-    assert!(rt; compared?);
-    Ok(())
+    if compared? {
+        Ok(())
+    } else {
+        Err(Fail::from("they aren't refused"))
+    }
 }
 
 const REFUSALS: &'static [(CompileError, u8, &'static str)] = &[
@@ -248,7 +249,7 @@ fn check_refusals(
         let error = case.0;
         if error.number() != case.1
             || error.name() != case.2
-            || !is_printed(alloc, error, case.2)?
+            || !is_printed(alloc, &error, case.2)?
         {
             return Err(Fail::from(case.2));
         }

@@ -4,12 +4,13 @@ pub(crate) mod folders;
 pub(crate) mod jobs;
 mod limits;
 
+use crate::tables::{fields, is_number};
 use std::alloc::{AllocError, Global};
 use std::test::Fail;
-use up_conf::{Action, Folder, Process, Stanza, read_conf};
+use up_conf::{Action, ConfFault, Folder, Process, Stanza, Stanzas, read_conf};
 use up_expr::{Condition, Root};
 use up_stanza::read_bytes;
-use up_text::{Items, Text};
+use up_text::{Items, Text, copy_texts};
 
 // Adds a file to a folder.
 pub(crate) fn add(
@@ -18,11 +19,11 @@ pub(crate) fn add(
     path: &str,
     bytes: &[u8],
 ) -> Result<(), AllocError> {
-    let bytes = Vec::from_slice(alloc, bytes);
-    match Text::from_str(alloc, path) {
-        Ok(path) => folder.add(path, Items::new(bytes?)),
+    let path = Text::from_str(alloc, path)?;
+    match Vec::from_slice(alloc, bytes) {
+        Ok(bytes) => folder.add(path, Items::new(bytes)),
         Err(refused) => {
-            drop(bytes);
+            drop(path);
             Err(refused)
         }
     }
@@ -74,13 +75,15 @@ fn is_event(condition: &Option<Condition>, name: &str) -> bool {
 
 // Whether texts are these.
 fn are_texts(texts: &[Text], expected: &[&str]) -> bool {
-    for (place, text) in expected.iter().enumerate() {
-        match texts.get(place) {
-            Some(found) if found.is(*text) => {}
-            _ => return false,
+    if texts.len() != expected.len() {
+        return false;
+    }
+    for place in 0..expected.len() {
+        if !texts[place].is(expected[place]) {
+            return false;
         }
     }
-    texts.len() == expected.len()
+    true
 }
 
 // Whether a process runs these words.
@@ -94,8 +97,8 @@ fn runs(action: &Option<Action>, expected: &[&str]) -> bool {
 // How many stanzas a file has, or the line and the number of its fault.
 type Reading = Result<usize, (u32, u8)>;
 
-fn read(alloc: Global, bytes: &[u8]) -> Reading {
-    match read_conf(alloc, bytes) {
+fn reading_of(read: Result<Stanzas, ConfFault>) -> Reading {
+    match read {
         Ok(stanzas) => {
             let count = stanzas.as_slice().len();
             drop(stanzas);
@@ -105,69 +108,56 @@ fn read(alloc: Global, bytes: &[u8]) -> Reading {
     }
 }
 
-const BYTES: &'static [(&'static [u8], Reading)] = &[
-    (b"task\nmanual\n", Ok(2)),
-    (b"task\nbogus x\n", Err((2, 1))),
-];
+fn read(alloc: Global, bytes: &[u8]) -> Reading {
+    reading_of(read_conf(alloc, bytes))
+}
 
-fn check_bytes(alloc: Global, cases: &[(&[u8], Reading)]) -> Result<(), Fail> {
-    for case in cases {
-        let reading = match read_bytes(alloc, case.0)? {
-            Ok(stanzas) => {
-                let count = stanzas.as_slice().len();
-                drop(stanzas);
-                Ok(count)
-            }
-            Err(fault) => Err((fault.line, fault.code.number())),
+// Whether a file is read as a row tells: that it has so many stanzas, or a fault on this line with this number, or that it is refused.
+fn is_told(reading: Reading, outcome: &str, number: &str) -> bool {
+    match reading {
+        Ok(count) => outcome == "stanzas"
+            && is_number(number, u32::try_from(count).unwrap_or(u32::MAX)),
+        Err((line, code)) => outcome == "refused"
+            || (is_number(outcome, line) && is_number(number, u32::from(code))),
+    }
+}
+
+// Whether a file is read so, as a job file and as bytes.
+fn is_read(alloc: Global, file: &[u8], outcome: &str, number: &str) -> Result<bool, AllocError> {
+    let given = reading_of(read_bytes(alloc, file)?);
+    Ok(is_told(given, outcome, number) && is_told(read(alloc, file), outcome, number))
+}
+
+// Each row ends with `||`.
+fn check(alloc: Global, rows: &'static str) -> Result<(), Fail> {
+    for row in rows.split_terminator("||\n") {
+        let holds = match fields(row) {
+            Some((file, outcome, number)) => is_read(alloc, file.as_bytes(), outcome, number)?,
+            None => row.starts_with("# "),
         };
-        if reading != case.1 {
-            return Err(Fail::from(case.1));
+        if !holds {
+            return Err(Fail::from(row));
         }
     }
     Ok(())
 }
 
-#[test]
-fn bytes_give_stanzas_or_their_fault(rt: HostRuntime) -> Result<(), Fail> {
-    check_bytes(rt.alloc(), BYTES)
-}
-
-// Files and how many stanzas they have, if they are read.
-const FILES: &'static [(&'static [u8], Option<usize>)] = &[
-    (
-        b"description \"a b\"\nauthor x\nversion 1\nusage u\nemits a b\nenv A=1\nenv B\nexport A B\ntask\nmanual\n",
-        Some(10),
-    ),
-    (
-        b"respawn\nrespawn limit 3 5\nrespawn limit unlimited\nnormal exit 0 TERM SIGHUP\nkill timeout 7\nkill signal INT\nreload signal 1\n",
-        Some(7),
-    ),
-    (
-        b"instance $TTY\nconsole none\nchdir /tmp\n\"exec\" /bin/d\nscript\nx\nend script\npre-start exec a\npost-stop script\ny\nend script # z\n",
-        Some(7),
-    ),
-    (b"start on (a or b X=1)\n  and c\nstop on d\n", None),
-    (b"start on (a\n or b X=1)\nstop on d\n", Some(2)),
-    (b"\n# nothing\n", Some(0)),
-    // The largest numbers.
-    (
-        b"respawn limit 065535 2147483647\nnormal exit 0255 SYS\nkill signal 31\nkill timeout 00\n",
-        Some(4),
-    ),
-];
-
-fn check_files(alloc: Global, files: &[(&[u8], Option<usize>)]) -> Result<(), Fail> {
-    for (place, case) in files.iter().enumerate() {
-        if read(alloc, case.0).ok() != case.1 {
-            return Err(Fail::new(format_args!("file {place}: the count isn't {:?}", case.1)));
-        }
-    }
-    Ok(())
-}
+// In each row a file, and how many stanzas it has, if it is read.
+const FILES: &'static str = "\
+task\nmanual\n|stanzas|2||
+description \"a b\"\nauthor x\nversion 1\nusage u\nemits a b\nenv A=1\nenv B\nexport A B\ntask\nmanual\n|stanzas|10||
+respawn\nrespawn limit 3 5\nrespawn limit unlimited\nnormal exit 0 TERM SIGHUP\nkill timeout 7\nkill signal INT\nreload signal 1\n|stanzas|7||
+instance $TTY\nconsole none\nchdir /tmp\n\"exec\" /bin/d\nscript\nx\nend script\npre-start exec a\npost-stop script\ny\nend script # z\n|stanzas|7||
+start on (a or b X=1)\n  and c\nstop on d\n|refused|||
+start on (a\n or b X=1)\nstop on d\n|stanzas|2||
+\n# nothing\n|stanzas|0||
+# The largest numbers.||
+respawn limit 065535 2147483647\nnormal exit 0255 SYS\nkill signal 31\nkill timeout 00\n|stanzas|4||
+";
 
 #[test]
 fn every_stanza_is_read(rt: HostRuntime) -> Result<(), Fail> {
-    check_files(rt.alloc(), FILES)
+    check(rt.alloc(), FILES)
 }
 
 // What a process runs: words, or a shell with a text.
@@ -224,37 +214,63 @@ const RUNS: &'static [Run] = &[
         process: Process::PostStart,
         command: Command::Shell(""),
     },
+    Run {
+        bytes: b"exec /bin/d -f\n",
+        process: Process::Main,
+        command: Command::Words(&["/bin/d", "-f"]),
+    },
+    Run {
+        bytes: b"script\nexit 1\nend script\n",
+        process: Process::Main,
+        command: Command::Shell("exit 1\n"),
+    },
 ];
 
-fn is_command(action: &Action, command: &Command) -> bool {
+// Whether words are these, and their copies are.
+fn are_words(alloc: Global, words: &[Text], expected: &[&str]) -> Result<bool, AllocError> {
+    let copied = copy_texts(alloc, words)?;
+    let are_copied = are_texts(copied.as_slice(), expected);
+    drop(copied);
+    Ok(are_copied && are_texts(words, expected))
+}
+
+fn is_command(alloc: Global, action: &Action, command: &Command) -> Result<bool, AllocError> {
     match command {
-        Command::Words(expected) => {
-            matches!(action, Action::Words(words) if are_texts(words.as_slice(), *expected))
-        }
-        Command::Shell(expected) => matches!(action, Action::Shell(text) if text.is(*expected)),
+        Command::Words(expected) => match action {
+            Action::Words(words) => are_words(alloc, words.as_slice(), *expected),
+            Action::Shell(_) => Ok(false),
+        },
+        Command::Shell(expected) => match action {
+            Action::Shell(text) => Ok(text.is(*expected)),
+            Action::Words(_) => Ok(false),
+        },
     }
 }
 
-fn holds(alloc: Global, run: &Run) -> bool {
-    match read_conf(alloc, run.bytes) {
-        Ok(stanzas) => {
-            let is_run = match stanzas.as_slice() {
-                [Stanza::Runs(process, action)] => {
-                    *process == run.process && is_command(action, &run.command)
-                }
-                _ => false,
-            };
-            drop(stanzas);
-            is_run
+// Whether an action is this command, and its copy is.
+fn are_commands(alloc: Global, action: &Action, command: &Command) -> Result<bool, AllocError> {
+    let copied = action.copy(alloc)?;
+    let is_copied = is_command(alloc, &copied, command);
+    drop(copied);
+    Ok(is_copied? && is_command(alloc, action, command)?)
+}
+
+fn is_run(alloc: Global, stanzas: &[Stanza], run: &Run) -> Result<bool, AllocError> {
+    match stanzas {
+        [Stanza::Runs(process, action)] if *process == run.process => {
+            are_commands(alloc, action, &run.command)
         }
-        Err(_) => false,
+        _ => Ok(false),
     }
 }
 
 fn check_runs(alloc: Global, runs: &[Run]) -> Result<(), Fail> {
     for (place, run) in runs.iter().enumerate() {
-        if !holds(alloc, run) {
-            return Err(Fail::new(format_args!("file {place} runs something else")));
+        let stanzas = read_conf(alloc, run.bytes)?;
+        let is_run = is_run(alloc, stanzas.as_slice(), run);
+        drop(stanzas);
+        if !is_run? {
+            return Err(Fail::from(place));
         }
     }
     Ok(())

@@ -140,110 +140,133 @@ a K=${Z|refused|14
 a K!=${5}|refused|14
 "#;
 
-// Where a line ends within parentheses.
-const OVER_LINES: (&'static str, &'static str) = ("(a\n or b)", "(a or b)");
+fn count_leaves(condition: &Condition) -> u32 {
+    let mut count = 0u32;
+    for node in condition.nodes().as_slice() {
+        if matches!(node, Node::Leaf(_)) {
+            count = count.wrapping_add(1);
+        }
+    }
+    count
+}
 
-// Whether an expression is this tree, or is refused by this number.
-fn comes_to(alloc: Global, text: &str, outcome: &str, wanted: &str) -> Result<bool, Fail> {
+// Whether an expression is this tree, or has so many leaves, or is a leaf that matches an event, or differs from it.
+fn is_outcome(
+    alloc: Global,
+    condition: &Condition,
+    outcome: &str,
+    wanted: &str,
+    env: &Env,
+) -> Result<bool, Fail> {
+    match outcome {
+        "is" => Ok(are_written(alloc, condition, wanted)?),
+        "leaves" => Ok(is_number(wanted, count_leaves(condition))),
+        "matches" => is_answered(alloc, condition, wanted, env, true),
+        "differs" => is_answered(alloc, condition, wanted, env, false),
+        _ => Ok(false),
+    }
+}
+
+// Whether this is the outcome of an expression, or the number of the fault for which it is refused.
+fn comes_to(
+    alloc: Global,
+    text: &str,
+    outcome: &str,
+    wanted: &str,
+    env: &Env,
+) -> Result<bool, Fail> {
     match parse(alloc, text)? {
         Ok(condition) => {
-            let are_written = are_written(alloc, &condition, wanted);
+            let is_outcome = is_outcome(alloc, &condition, outcome, wanted, env);
             drop(condition);
-            Ok(outcome == "is" && are_written?)
+            is_outcome
         }
         Err(fault) => Ok(outcome == "refused" && is_number(wanted, u32::from(fault.number()))),
     }
 }
 
-fn holds(alloc: Global, row: &str) -> Result<bool, Fail> {
+fn holds(alloc: Global, row: &str, env: &Env) -> Result<bool, Fail> {
     match fields(row) {
-        Some((text, outcome, wanted)) => comes_to(alloc, text, outcome, wanted),
+        Some((text, outcome, wanted)) => comes_to(alloc, text, outcome, wanted, env),
         None => Ok(row.starts_with('#')),
     }
 }
 
-fn check(alloc: Global, rows: &'static str) -> Result<(), Fail> {
+fn check(alloc: Global, rows: &'static str, env: &Env) -> Result<(), Fail> {
     for row in rows.lines() {
-        if !holds(alloc, row)? {
+        if !holds(alloc, row, env)? {
             return Err(Fail::from(row));
         }
-    }
-    if !comes_to(alloc, OVER_LINES.0, "is", OVER_LINES.1)? {
-        return Err(Fail::from(OVER_LINES.0));
     }
     Ok(())
 }
 
 #[test]
 fn expressions_are_parsed(rt: HostRuntime) -> Result<(), Fail> {
-    check(rt.alloc(), ROWS)
+    check(rt.alloc(), ROWS, &Env::new(rt.alloc()))
 }
 
-// A long text, and with how many leaves it is read, or that it is too large.
+// A long text, and with how many leaves it is read, or the number of its fault.
 struct Large {
     name: &'static str,
     text: Long,
-    leaves: Result<usize, u8>,
+    outcome: &'static str,
+    wanted: &'static str,
 }
 
-// At each limit a text and the next larger one.
+// At each limit a text and the next larger one; and one that ends a line within parentheses.
 const LARGE: &'static [Large] = &[
+    Large {
+        name: "over lines",
+        text: ("(a\n or b)", "", 0, "", 0),
+        outcome: "is",
+        wanted: "(a or b)",
+    },
     // The tree is as deep as it has leaves.
     Large {
         name: "most leaves",
         text: ("", "a or ", 2_047, "a", 0),
-        leaves: Ok(2_048),
+        outcome: "leaves",
+        wanted: "2048",
     },
     Large {
         name: "too many leaves",
         text: ("", "a or ", 2_047, "a and a", 0),
-        leaves: Err(16),
+        outcome: "refused",
+        wanted: "16",
     },
     Large {
         name: "most parentheses",
         text: ("", "(a and ", 256, "a", 256),
-        leaves: Ok(257),
+        outcome: "leaves",
+        wanted: "257",
     },
     Large {
         name: "too many parentheses",
         text: ("", "(a and ", 257, "a", 257),
-        leaves: Err(16),
+        outcome: "refused",
+        wanted: "16",
     },
     Large {
         name: "most values",
         text: ("", "a ", 65_536, "", 0),
-        leaves: Ok(1),
+        outcome: "leaves",
+        wanted: "1",
     },
     Large {
         name: "too many values",
         text: ("", "a ", 65_536, "a", 0),
-        leaves: Err(16),
+        outcome: "refused",
+        wanted: "16",
     },
 ];
 
-// How many leaves a text has, or the number of its fault.
-fn read_leaves(alloc: Global, text: &str) -> Result<Result<usize, u8>, Fail> {
-    match parse(alloc, text)? {
-        Ok(condition) => {
-            let mut count = 0usize;
-            for node in condition.nodes().as_slice() {
-                if matches!(node, Node::Leaf(_)) {
-                    count = count.wrapping_add(1);
-                }
-            }
-            drop(condition);
-            Ok(Ok(count))
-        }
-        Err(fault) => Ok(Err(fault.number())),
-    }
-}
-
-fn check_large(alloc: Global, cases: &[Large]) -> Result<(), Fail> {
+fn check_large(alloc: Global, cases: &[Large], env: &Env) -> Result<(), Fail> {
     for case in cases {
         let text = long_text(alloc, &case.text)?;
-        let leaves = read_leaves(alloc, text.as_str());
+        let comes = comes_to(alloc, text.as_str(), case.outcome, case.wanted, env);
         drop(text);
-        if leaves? != case.leaves {
+        if !comes? {
             return Err(Fail::from(case.name));
         }
     }
@@ -252,7 +275,7 @@ fn check_large(alloc: Global, cases: &[Large]) -> Result<(), Fail> {
 
 #[test]
 fn expressions_are_limited(rt: HostRuntime) -> Result<(), Fail> {
-    check_large(rt.alloc(), LARGE)
+    check_large(rt.alloc(), LARGE, &Env::new(rt.alloc()))
 }
 
 // `K` is empty, and `P` no supported pattern.
@@ -347,30 +370,18 @@ fn answers(
     answers
 }
 
-fn is_match(alloc: Global, row: &str, env: &Env) -> Result<bool, Fail> {
-    let Some((leaf, answer, words)) = fields(row) else {
-        return Ok(row.starts_with('#'));
-    };
-    match parse(alloc, leaf)? {
-        Ok(condition) => {
-            let answered = match condition.root().root() {
-                Root::Leaf(leaf) => answers(alloc, leaf, words, env, answer == "matches"),
-                Root::And(_, _) | Root::Or(_, _) => Ok(false),
-            };
-            drop(condition);
-            answered
-        }
-        Err(_) => Ok(false),
+// Whether an expression is a leaf that does.
+fn is_answered(
+    alloc: Global,
+    condition: &Condition,
+    words: &str,
+    env: &Env,
+    matched: bool,
+) -> Result<bool, Fail> {
+    match condition.root().root() {
+        Root::Leaf(leaf) => answers(alloc, leaf, words, env, matched),
+        Root::And(_, _) | Root::Or(_, _) => Ok(false),
     }
-}
-
-fn check_matches(alloc: Global, rows: &'static str, env: &Env) -> Result<(), Fail> {
-    for row in rows.lines() {
-        if !is_match(alloc, row, env)? {
-            return Err(Fail::from(row));
-        }
-    }
-    Ok(())
 }
 
 // A leaf of the event e that no file may have: its variable X must not be a value, and another value may follow. An event, and whether it matches.
@@ -458,7 +469,7 @@ fn check_made(alloc: Global, cases: &[Made], env: &Env) -> Result<(), Fail> {
 #[test]
 fn leaves_match(rt: HostRuntime) -> Result<(), Fail> {
     let env = env_of(rt.alloc(), ENVIRONMENT)?;
-    let checked = match check_matches(rt.alloc(), MATCHES, &env) {
+    let checked = match check(rt.alloc(), MATCHES, &env) {
         Ok(()) => check_made(rt.alloc(), MADE, &env),
         Err(fail) => Err(fail),
     };
@@ -478,7 +489,7 @@ const FAULTS: &'static [(ExprFault, u8, &'static str)] = &[
 
 fn check_faults(alloc: Global, faults: &[(ExprFault, u8, &'static str)]) -> Result<(), Fail> {
     for case in faults {
-        if case.0.number() != case.1 || !is_printed(alloc, case.0, case.2)? {
+        if case.0.number() != case.1 || !is_printed(alloc, &case.0, case.2)? {
             return Err(Fail::from(case.2));
         }
     }

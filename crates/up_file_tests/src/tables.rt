@@ -24,15 +24,13 @@ pub(crate) fn is_number(text: &str, number: u32) -> bool {
 }
 
 /// Whether a value is printed so.
-pub(crate) fn is_printed<D: Display + Drop>(
+pub(crate) fn is_printed<D: Display>(
     alloc: Global,
-    value: D,
+    value: &D,
     text: &str,
 ) -> Result<bool, AllocError> {
     let printed = format!(in alloc; "{value}")?;
-    let is_text = printed.as_str() == text;
-    drop(printed);
-    Ok(is_text)
+    Ok(printed.as_str() == text)
 }
 
 /// A head, a piece and how often it is repeated, an end, and how many parentheses close it.

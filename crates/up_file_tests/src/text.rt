@@ -84,17 +84,18 @@ pub(crate) fn env_of(alloc: Global, pairs: &[Pair]) -> Result<Env, TextFault> {
     }
 }
 
-fn is_pair(found: (&str, &str), value: Option<&str>, pair: &Pair) -> bool {
-    match value {
-        Some(value) => found.0 == pair.0 && found.1 == pair.1 && value == pair.1,
-        None => false,
+fn is_pair(env: &Env, at: usize, key: &str, value: &str) -> bool {
+    if at >= env.len() {
+        return false;
     }
+    let found = env.at(at);
+    found.0 == key && found.1 == value && env.get(key) == Some(value)
 }
 
 // Whether these keys, and no others, have these values, in this order.
 fn has_pairs(env: &Env, pairs: &[Pair]) -> bool {
     for (at, pair) in pairs.iter().enumerate() {
-        if at >= env.len() || !is_pair(env.at(at), env.get(pair.0), pair) {
+        if !is_pair(env, at, pair.0, pair.1) {
             return false;
         }
     }
@@ -132,27 +133,37 @@ const ENVIRONMENTS: &'static [Case] = &[
 
 const BAD_PAIRS: &'static [Pair] = &[("", "x"), ("1a", "x"), ("a-b", "x"), ("A", "x\0y")];
 
-// The key of the first pair that isn't refused.
-fn first_accepted(env: &mut Env, pairs: &[Pair]) -> Option<&'static str> {
+fn refuses_all(env: &mut Env, pairs: &[Pair]) -> bool {
     for pair in pairs {
         if env.set(pair.0, pair.1) != Err(TextFault::BadName) {
-            return Some(pair.0);
+            return false;
         }
     }
-    None
+    true
 }
 
-// Whether an environment gives what it should after another is appended, its copy too, and no less after what it refuses.
-fn gives(alloc: Global, env: &mut Env, case: &Case) -> Result<bool, TextFault> {
-    let appended = env_of(alloc, case.appended)?;
+fn append(alloc: Global, env: &mut Env, pairs: &[Pair]) -> Result<(), TextFault> {
+    let appended = env_of(alloc, pairs)?;
     let done = env.append(&appended);
     drop(appended);
-    done?;
-    let copied = env.copy()?;
-    let is_copied = has_pairs(&copied, case.given);
+    Ok(done?)
+}
+
+// Whether a copy gives these pairs, and a new value once that is set.
+fn copy_gives(env: &Env, pairs: &[Pair]) -> Result<bool, TextFault> {
+    let mut copied = env.copy()?;
+    let has_pairs = has_pairs(&copied, pairs);
+    let set = copied.set("A", "new");
+    let is_set = copied.get("A") == Some("new");
     drop(copied);
-    let accepted = first_accepted(env, BAD_PAIRS);
-    Ok(is_copied && accepted.is_none() && has_pairs(env, case.given))
+    set?;
+    Ok(has_pairs && is_set)
+}
+
+// Whether an environment gives what it should after another is appended, and no less after its copy was changed, and after what it refuses.
+fn gives(alloc: Global, env: &mut Env, case: &Case) -> Result<bool, TextFault> {
+    append(alloc, env, case.appended)?;
+    Ok(copy_gives(env, case.given)? && refuses_all(env, BAD_PAIRS) && has_pairs(env, case.given))
 }
 
 fn check_environments(alloc: Global, cases: &[Case]) -> Result<(), Fail> {
@@ -172,73 +183,69 @@ fn environments(rt: HostRuntime) -> Result<(), Fail> {
     check_environments(rt.alloc(), ENVIRONMENTS)
 }
 
-// Whether an environment still gives what it gave after a key of its copy is set, and the copy gives the new value.
-fn is_apart(env: &Env, case: &Case) -> Result<bool, TextFault> {
-    let mut copied = env.copy()?;
-    let done = copied.set("A", "new");
-    let is_set = copied.get("A") == Some("new");
-    drop(copied);
-    done?;
-    Ok(is_set && has_pairs(env, case.given))
-}
+// More keys than any environment here has.
+const KEYS: &'static str = "\
+K0 K1 K2 K3 K4 K5 K6 K7 K8 K9 K10 K11 K12 K13 K14 K15 K16 K17 K18 K19 K20 K21 K22 K23 K24 K25 K26 K27 K28 K29 K30 K31 K32 K33 K34 K35 K36 \
+K37 K38 K39 K40 K41 K42 K43 K44 K45 K46 K47 K48 K49 K50 K51 K52 K53 K54 K55 K56 K57 K58 K59 K60 K61 K62 K63 K64 K65 K66 K67 K68 K69 K70 K71 \
+K72 K73 K74 K75 K76 K77 K78 K79 K80 K81 K82 K83 K84 K85 K86 K87 K88 K89 K90 K91 K92 K93 K94 K95 K96 K97 K98 K99 K100 K101 K102";
 
-#[test]
-fn copies_are_apart(rt: HostRuntime) -> Result<(), Fail> {
-    for case in ENVIRONMENTS {
-        let env = env_of(rt.alloc(), case.given)?;
-        let apart = is_apart(&env, case);
-        drop(env);
-        assert!(rt; apart?);
-    }
-    Ok(())
-}
-
-// Sets so many keys, K0, K1 and so on, each to its own name.
-fn set_many(alloc: Global, env: &mut Env, count: usize) -> Result<(), TextFault> {
-    for i in 0..count {
-        let key = format!(in alloc; "K{i}")?;
-        env.set(key.as_str(), key.as_str())?;
+// Sets so many of these keys, each to its own name.
+fn set_many(env: &mut Env, count: usize) -> Result<(), TextFault> {
+    for (place, key) in KEYS.split(' ').enumerate() {
+        if place < count {
+            env.set(key, key)?;
+        }
     }
     Ok(())
 }
 
 // Whether these are all keys, in this order.
-fn has_many(alloc: Global, env: &Env, count: usize) -> Result<bool, AllocError> {
-    for i in 0..count {
-        let key = format!(in alloc; "K{i}")?;
-        let key = key.as_str();
-        if i >= env.len() || env.at(i) != (key, key) || env.get(key) != Some(key) {
-            return Ok(false);
+fn has_many(env: &Env, count: usize) -> bool {
+    for (place, key) in KEYS.split(' ').enumerate() {
+        if place < count && !is_pair(env, place, key, key) {
+            return false;
         }
     }
-    Ok(env.len() == count && env.get("K").is_none())
+    env.len() == count && env.get("K").is_none()
 }
 
 // Whether a copy gets more keys, and all of them once again, while the environment keeps its own.
-fn grows_apart(alloc: Global, env: &Env, count: usize) -> Result<bool, TextFault> {
+fn grows_apart(env: &Env, count: usize) -> Result<bool, TextFault> {
     let more_keys = count.saturating_add(3);
     let mut copied = env.copy()?;
-    let more = set_many(alloc, &mut copied, more_keys);
-    let again = set_many(alloc, &mut copied, more_keys);
-    let has_more = has_many(alloc, &copied, more_keys);
+    let more = set_many(&mut copied, more_keys);
+    let again = set_many(&mut copied, more_keys);
+    let has_more = has_many(&copied, more_keys);
     drop(copied);
     more?;
     again?;
-    Ok(has_more? && has_many(alloc, env, count)?)
+    Ok(has_more && has_many(env, count))
+}
+
+fn many_grow_apart(alloc: Global, count: usize) -> Result<bool, TextFault> {
+    let mut env = Env::new(alloc);
+    let set = set_many(&mut env, count);
+    let apart = grows_apart(&env, count);
+    drop(env);
+    set?;
+    apart
+}
+
+const COUNTS: &'static [usize] = &[0, 13, 14, 15, 16, 17, 100];
+
+fn check_counts(alloc: Global, counts: &[usize]) -> Result<(), Fail> {
+    for count in counts {
+        if !many_grow_apart(alloc, *count)? {
+            return Err(Fail::from(*count));
+        }
+    }
+    Ok(())
 }
 
 // Up to 16 keys are in a list, and more in a map.
 #[test]
 fn environments_of_many_keys(rt: HostRuntime) -> Result<(), Fail> {
-    for count in [0, 13, 14, 15, 16, 17, 100] {
-        let mut env = Env::new(rt.alloc());
-        let set = set_many(rt.alloc(), &mut env, count);
-        let apart = grows_apart(rt.alloc(), &env, count);
-        drop(env);
-        set?;
-        assert!(rt; apart?);
-    }
-    Ok(())
+    check_counts(rt.alloc(), COUNTS)
 }
 
 // A short text, which lies in the value itself, and one that doesn't.
@@ -249,34 +256,39 @@ fn is_text(text: &Text, wanted: &str) -> bool {
 }
 
 // Whether a text is this one, and its copies are.
-fn copies_are(text: &Text, wanted: &str) -> Result<bool, AllocError> {
+fn copies_are(text: Result<Text, AllocError>, wanted: &str) -> Result<bool, AllocError> {
+    let text = text?;
     let copied = text.copy()?;
     let cloned = text.clone()?;
-    Ok(is_text(text, wanted) && is_text(&copied, wanted) && is_text(&cloned, wanted))
+    Ok(is_text(&text, wanted) && is_text(&copied, wanted) && is_text(&cloned, wanted))
 }
 
-#[test]
-fn texts(rt: HostRuntime) -> Result<(), Fail> {
-    for wanted in TEXTS {
-        let text = Text::from_str(rt.alloc(), wanted)?;
-        assert!(rt; copies_are(&text, wanted)?);
-        let text = Text::new(String::from_str(rt.alloc(), wanted)?);
-        assert!(rt; copies_are(&text, wanted)?);
+fn text_of(alloc: Global, text: &str) -> Result<Text, AllocError> {
+    Ok(Text::new(String::from_str(alloc, text)?))
+}
+
+fn check_texts(alloc: Global, texts: &[&'static str]) -> Result<(), Fail> {
+    for text in texts {
+        if !copies_are(Text::from_str(alloc, text), text)?
+            || !copies_are(text_of(alloc, text), text)?
+        {
+            return Err(Fail::from(*text));
+        }
     }
-    assert!(rt; copies_are(&Text::empty(), "")?);
     Ok(())
 }
 
 const ITEMS: &'static [u8] = &[3, 1];
 
-fn are_items(items: Items<u8>) -> bool {
-    items.as_slice() == ITEMS && items.into_vec().as_slice() == ITEMS
+fn are_items(alloc: Global) -> Result<bool, AllocError> {
+    let items = Items::new(vec![in alloc; 3, 1]?);
+    Ok(items.as_slice() == ITEMS && items.into_vec().as_slice() == ITEMS)
 }
 
 #[test]
-fn items(rt: HostRuntime) -> Result<(), Fail> {
-    assert!(rt; are_items(Items::new(vec![in rt.alloc(); 3, 1]?)));
-    Ok(())
+fn texts_and_items(rt: HostRuntime) -> Result<(), Fail> {
+    assert!(rt; copies_are(Ok(Text::empty()), "")? && are_items(rt.alloc())?);
+    check_texts(rt.alloc(), TEXTS)
 }
 
 const FAULTS: &'static [(TextFault, u8, &'static str)] = &[
@@ -289,7 +301,7 @@ const FAULTS: &'static [(TextFault, u8, &'static str)] = &[
 
 fn check_faults(alloc: Global, faults: &[(TextFault, u8, &'static str)]) -> Result<(), Fail> {
     for case in faults {
-        if case.0.number() != case.1 || !is_printed(alloc, case.0, case.2)? {
+        if case.0.number() != case.1 || !is_printed(alloc, &case.0, case.2)? {
             return Err(Fail::from(case.2));
         }
     }

@@ -1,68 +1,80 @@
 //! The small calls: tests of one text, state or end, and copies.
 use crate::conf::jobs::is_setting;
+use crate::tables::fields;
 use std::alloc::{AllocError, Global};
 use std::test::Fail;
 use up_expr::{Test, is_job_event, wanted_job};
 use up_model::{Goal, State};
-use up_stanza::{Action, Exit, Setting, Signal, has_shell, is_shell};
+use up_stanza::{Exit, Setting, Signal, has_shell, is_shell};
 use up_text::env::{is_key, is_key_byte, is_key_start, is_value, split_pair};
-use up_text::{Items, Text, as_text, copy_texts, is_name};
+use up_text::{Text, as_text, is_name};
 
-// What a text may be: a key of an environment, its value, a name, an event that jobs make, a command that needs the shell.
-enum Kind {
-    Key,
-    Value,
-    Name,
-    JobEvent,
-    Shell,
-}
+// In each row, which ends with `||`, what a text may be, whether it is that, and the text. A pair has its two parts in place of `yes`.
+const TEXTS: &'static str = "\
+key|yes|A||
+key|yes|_||
+key|yes|a1||
+key|yes|zZ_09||
+key|no|||
+key|no|1a||
+key|no|a-b||
+key|no|A=||
+key|no|a ||
+key|no|\u{e9}||
+value|yes|||
+value|yes|a = \"\u{e9}\"\n||
+value|no|a\0||
+name|yes|tty1||
+name|yes|net-device-up||
+name|no|||
+name|no|a b||
+name|no|a=b||
+name|no|$A||
+job event|yes|starting||
+job event|yes|started||
+job event|yes|stopping||
+job event|yes|stopped||
+job event|no|startup||
+command for a shell|no|/sbin/getty 38400 tty1||
+command for a shell|yes|echo $HOME||
+command for a shell|yes|a | b||
+command for a shell|no|||
+bytes|yes|||
+bytes|yes|go||
+bytes|yes|a b||
+bytes|yes|\u{e9}||
+pair|A 1|A=1||
+pair|A 1=2|A=1=2||
+pair|A |A=||
+pair| 1|=1||
+pair|no|A||
+";
 
-// Texts, and whether each is one.
-const TEXTS: &'static [(Kind, &'static str, bool)] = &[
-    (Kind::Key, "A", true),
-    (Kind::Key, "_", true),
-    (Kind::Key, "a1", true),
-    (Kind::Key, "zZ_09", true),
-    (Kind::Key, "", false),
-    (Kind::Key, "1a", false),
-    (Kind::Key, "a-b", false),
-    (Kind::Key, "A=", false),
-    (Kind::Key, "a ", false),
-    (Kind::Key, "\u{e9}", false),
-    (Kind::Value, "", true),
-    (Kind::Value, "a = \"\u{e9}\"\n", true),
-    (Kind::Value, "a\0", false),
-    (Kind::Name, "tty1", true),
-    (Kind::Name, "net-device-up", true),
-    (Kind::Name, "", false),
-    (Kind::Name, "a b", false),
-    (Kind::Name, "a=b", false),
-    (Kind::Name, "$A", false),
-    (Kind::JobEvent, "starting", true),
-    (Kind::JobEvent, "started", true),
-    (Kind::JobEvent, "stopping", true),
-    (Kind::JobEvent, "stopped", true),
-    (Kind::JobEvent, "startup", false),
-    (Kind::Shell, "/sbin/getty 38400 tty1", false),
-    (Kind::Shell, "echo $HOME", true),
-    (Kind::Shell, "a | b", true),
-    (Kind::Shell, "", false),
-];
-
-fn is(kind: &Kind, text: &str) -> bool {
+fn is(kind: &str, answer: &str, text: &str) -> bool {
+    let yes = answer == "yes";
     match kind {
-        Kind::Key => is_key(text),
-        Kind::Value => is_value(text),
-        Kind::Name => is_name(text),
-        Kind::JobEvent => is_job_event(text),
-        Kind::Shell => has_shell(text.as_bytes()),
+        "key" => is_key(text) == yes,
+        "value" => is_value(text) == yes,
+        "name" => is_name(text) == yes,
+        "job event" => is_job_event(text) == yes,
+        "command for a shell" => has_shell(text.as_bytes()) == yes,
+        "bytes" => as_text(text.as_bytes()) == Some(text),
+        "pair" => split_pair(text) == answer.split_once(' '),
+        _ => false,
     }
 }
 
-fn check_texts(cases: &[(Kind, &'static str, bool)]) -> Result<(), Fail> {
-    for (place, case) in cases.iter().enumerate() {
-        if is(&case.0, case.1) != case.2 {
-            return Err(Fail::new(format_args!("text {place}: {:?}", case.1)));
+fn is_told(row: &str) -> bool {
+    match fields(row) {
+        Some((kind, answer, text)) => is(kind, answer, text),
+        None => false,
+    }
+}
+
+fn check_texts(rows: &'static str) -> Result<(), Fail> {
+    for row in rows.split_terminator("||\n") {
+        if !is_told(row) {
+            return Err(Fail::from(row));
         }
     }
     Ok(())
@@ -92,59 +104,28 @@ fn check_bytes(cases: &[(u8, bool, bool, bool)]) -> Result<(), Fail> {
     Ok(())
 }
 
-// Bytes, and their text if they are one.
-const UTF_8: &'static [(&'static [u8], Option<&'static str>)] = &[
-    (b"", Some("")),
-    (b"go", Some("go")),
-    (b"a b", Some("a b")),
-    (b"\xC3\xA9", Some("\u{e9}")),
-    (b"\xC3", None),
-    (b"\xFF", None),
-];
-
-fn check_utf_8(cases: &[(&[u8], Option<&str>)]) -> Result<(), Fail> {
-    for (place, case) in cases.iter().enumerate() {
-        if as_text(case.0) != case.1 {
-            return Err(Fail::new(format_args!("bytes {place}")));
-        }
-    }
-    Ok(())
-}
-
-const PAIRS: &'static [(&'static str, Option<(&'static str, &'static str)>)] = &[
-    ("A=1", Some(("A", "1"))),
-    ("A=1=2", Some(("A", "1=2"))),
-    ("A=", Some(("A", ""))),
-    ("=1", Some(("", "1"))),
-    ("A", None),
-];
-
-fn check_pairs(cases: &[(&'static str, Option<(&str, &str)>)]) -> Result<(), Fail> {
-    for case in cases {
-        if split_pair(case.0) != case.1 {
-            return Err(Fail::from(case.0));
-        }
-    }
-    Ok(())
-}
-
 #[test]
-fn texts_and_bytes_are_of_a_kind() -> Result<(), Fail> {
-    check_texts(TEXTS)?;
+fn texts_and_bytes_are_of_a_kind(rt: HostRuntime) -> Result<(), Fail> {
+    assert!(rt; as_text(b"\xC3").is_none() && as_text(b"\xFF").is_none());
     check_bytes(BYTES)?;
-    check_utf_8(UTF_8)?;
-    check_pairs(PAIRS)
+    check_texts(TEXTS)
+}
+
+fn same(alloc: Global, key: &str, value: &str) -> Result<Test, AllocError> {
+    let key = Text::from_str(alloc, key)?;
+    match Text::from_str(alloc, value) {
+        Ok(value) => Ok(Test::Same(key, value)),
+        Err(refused) => {
+            drop(key);
+            Err(refused)
+        }
+    }
 }
 
 fn push_tests(alloc: Global, tests: &mut Vec<Test>) -> Result<(), AllocError> {
-    let key = Text::from_str(alloc, "RESULT")?;
-    let value = Text::from_str(alloc, "ok")?;
-    tests.push(Test::Same(key, value))?;
-    let key = Text::from_str(alloc, "JOB")?;
-    let value = Text::from_str(alloc, "a")?;
-    tests.push(Test::Same(key, value))?;
-    let value = Text::from_str(alloc, "b")?;
-    tests.push(Test::Place(value))?;
+    tests.push(same(alloc, "RESULT", "ok")?)?;
+    tests.push(same(alloc, "JOB", "a")?)?;
+    tests.push(Test::Place(Text::from_str(alloc, "b")?))?;
     Ok(())
 }
 
@@ -171,8 +152,11 @@ fn tests_want_the_job_that_comes_first(rt: HostRuntime) -> Result<(), Fail> {
     let are_wanted = are_wanted(tests.as_slice());
     drop(tests);
     pushed?;
-    assert!(rt; are_wanted);
-    Ok(())
+    if are_wanted {
+        Ok(())
+    } else {
+        Err(Fail::from("another job is wanted"))
+    }
 }
 
 fn are_told_apart(hup: Signal, kill: Signal) -> bool {
@@ -215,66 +199,6 @@ fn ends_goals_and_states(rt: HostRuntime) -> Result<(), Fail> {
     check_states(STATES)
 }
 
-fn push_texts(alloc: Global, texts: &mut Vec<Text>) -> Result<(), AllocError> {
-    texts.push(Text::from_str(alloc, "/bin/d")?)?;
-    texts.push(Text::from_str(alloc, "-f")?)?;
-    Ok(())
-}
-
-fn words(alloc: Global) -> Result<Action, AllocError> {
-    let mut texts = Vec::new(alloc);
-    match push_texts(alloc, &mut texts) {
-        Ok(()) => Ok(Action::Words(Items::new(texts))),
-        Err(refused) => {
-            drop(texts);
-            Err(refused)
-        }
-    }
-}
-
-fn are_texts(texts: &[Text]) -> bool {
-    match texts {
-        [first, second] => first.is("/bin/d") && second.is("-f"),
-        _ => false,
-    }
-}
-
-fn is_action(action: &Action, shell: bool) -> bool {
-    match action {
-        Action::Words(words) => !shell && are_texts(words.as_slice()),
-        Action::Shell(text) => shell && text.is("exit 1"),
-    }
-}
-
-fn texts_are_copied(alloc: Global, action: &Action) -> Result<bool, AllocError> {
-    let Action::Words(texts) = action else {
-        return Ok(true);
-    };
-    let copied = copy_texts(alloc, texts.as_slice())?;
-    let are_texts = are_texts(copied.as_slice());
-    drop(copied);
-    Ok(are_texts)
-}
-
-fn action_is_copied(
-    alloc: Global,
-    action: Result<Action, AllocError>,
-    shell: bool,
-) -> Result<bool, AllocError> {
-    let action = action?;
-    let copied = action.copy(alloc);
-    let texts = texts_are_copied(alloc, &action);
-    drop(action);
-    let copied = copied?;
-    let is_action = is_action(&copied, shell);
-    drop(copied);
-    Ok(is_action && texts?)
-}
-
-fn shell(alloc: Global) -> Result<Action, AllocError> {
-    Ok(Action::Shell(Text::from_str(alloc, "exit 1")?))
-}
-
 fn setting(alloc: Global, key: &str, value: Option<&str>) -> Result<Setting, AllocError> {
     let key = Text::from_str(alloc, key)?;
     let value = match value {
@@ -284,21 +208,22 @@ fn setting(alloc: Global, key: &str, value: Option<&str>) -> Result<Setting, All
     Ok(Setting { key, value })
 }
 
-fn setting_is_copied(alloc: Global, key: &str, value: Option<&str>) -> Result<bool, AllocError> {
+fn check_setting(alloc: Global, key: &'static str, value: Option<&str>) -> Result<(), Fail> {
     let setting = setting(alloc, key, value)?;
     let copied = setting.copy();
     drop(setting);
     let copied = copied?;
     let is_setting = is_setting(&copied, key, value);
     drop(copied);
-    Ok(is_setting)
+    if is_setting {
+        Ok(())
+    } else {
+        Err(Fail::from(key))
+    }
 }
 
 #[test]
-fn actions_and_settings_are_copied(rt: HostRuntime) -> Result<(), Fail> {
-    assert!(rt; action_is_copied(rt.alloc(), words(rt.alloc()), false)?);
-    assert!(rt; action_is_copied(rt.alloc(), shell(rt.alloc()), true)?);
-    assert!(rt; setting_is_copied(rt.alloc(), "A", None)?);
-    assert!(rt; setting_is_copied(rt.alloc(), "B", Some("1"))?);
-    Ok(())
+fn settings_are_copied(rt: HostRuntime) -> Result<(), Fail> {
+    check_setting(rt.alloc(), "A", None)?;
+    check_setting(rt.alloc(), "B", Some("1"))
 }

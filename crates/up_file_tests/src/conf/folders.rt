@@ -1,5 +1,5 @@
 //! What a folder says.
-use crate::conf::jobs::{Fact, first_unstated};
+use crate::conf::jobs::{Fact, states_all};
 use crate::conf::{add_numbered, folder_of};
 use std::alloc::{AllocError, Global};
 use std::test::Fail;
@@ -82,22 +82,17 @@ const CASES: &'static [Case] = &[
     },
 ];
 
-// The first of these jobs that isn't at its place, or that there are others.
-fn first_other_job(
-    jobs: &[JobDef],
-    expected: &[(&'static str, &'static [Fact])],
-) -> Option<&'static str> {
-    for (place, case) in expected.iter().enumerate() {
-        match jobs.get(place) {
-            Some(job) if job.name.as_str() == case.0 && first_unstated(job, case.1).is_none() => {}
-            _ => return Some(case.0),
+fn are_jobs(jobs: &[JobDef], expected: &[(&'static str, &'static [Fact])]) -> bool {
+    if jobs.len() != expected.len() {
+        return false;
+    }
+    for at in 0..expected.len() {
+        let job = &jobs[at];
+        if job.name.as_str() != expected[at].0 || !states_all(job, expected[at].1) {
+            return false;
         }
     }
-    if jobs.len() == expected.len() {
-        None
-    } else {
-        Some("more jobs")
-    }
+    true
 }
 
 // Whether a fault is this one.
@@ -109,19 +104,17 @@ fn is_fault(fault: &Fault, told: &Told) -> bool {
     is_named && fault.path.is(told.0) && fault.line == told.1 && fault.code.number() == told.2
 }
 
-// The path of the first of these faults that isn't at its place, or that there are others.
-fn first_other_fault(report: &Report, expected: &[Told]) -> Option<&'static str> {
-    for (place, told) in expected.iter().enumerate() {
-        match report.as_slice().get(place) {
-            Some(fault) if is_fault(fault, told) => {}
-            _ => return Some(told.0),
+fn are_faults(report: &Report, expected: &[Told]) -> bool {
+    let faults = report.as_slice();
+    if faults.len() != expected.len() {
+        return false;
+    }
+    for at in 0..expected.len() {
+        if !is_fault(&faults[at], &expected[at]) {
+            return false;
         }
     }
-    if report.len() == expected.len() && report.is_empty() == expected.is_empty() {
-        None
-    } else {
-        Some("more faults")
-    }
+    report.len() == expected.len() && report.is_empty() == expected.is_empty()
 }
 
 /// What a folder is read as.
@@ -132,19 +125,14 @@ pub(crate) fn read(alloc: Global, folder: &Folder) -> Result<(Items<JobDef>, Rep
     read
 }
 
-// The first job or fault that isn't at its place.
-fn first_other(
-    alloc: Global,
-    folder: &Folder,
-    case: &Case,
-) -> Result<Option<&'static str>, ConfFault> {
+fn holds(alloc: Global, folder: &Folder, case: &Case) -> Result<bool, ConfFault> {
     match read(alloc, folder) {
         Ok((jobs, report)) => {
-            let job = first_other_job(jobs.as_slice(), case.jobs);
+            let are_jobs = are_jobs(jobs.as_slice(), case.jobs);
             drop(jobs);
-            let fault = first_other_fault(&report, case.faults);
+            let are_faults = are_faults(&report, case.faults);
             drop(report);
-            Ok(job.or(fault))
+            Ok(are_jobs && are_faults)
         }
         Err(fault) => Err(fault),
     }
@@ -153,10 +141,10 @@ fn first_other(
 fn check(alloc: Global, cases: &[Case]) -> Result<(), Fail> {
     for case in cases {
         let folder = folder_of(alloc, case.files)?;
-        let other = first_other(alloc, &folder, case);
+        let holds = holds(alloc, &folder, case);
         drop(folder);
-        if let Some(other) = other? {
-            return Err(Fail::new(format_args!("{}: other than told: {other}", case.name)));
+        if !holds? {
+            return Err(Fail::from(case.name));
         }
     }
     Ok(())

@@ -112,27 +112,20 @@ fn holds(alloc: Global, row: &str, env: &Env, none: &Env) -> bool {
         && (!malformed || comes_to(alloc, text, none, outcome, wanted))
 }
 
-// The first row that doesn't hold.
-fn first_other(alloc: Global, rows: &'static str, env: &Env, none: &Env) -> Option<&'static str> {
+fn check(alloc: Global, rows: &'static str, env: &Env) -> Result<(), Fail> {
+    let none = Env::new(alloc);
     for row in rows.lines() {
-        if !holds(alloc, row, env, none) {
-            return Some(row);
+        if !holds(alloc, row, env, &none) {
+            return Err(Fail::from(row));
         }
     }
-    None
-}
-
-fn check(alloc: Global, rows: &'static str) -> Result<(), Fail> {
-    let env = env_of(alloc, SET)?;
-    let other = first_other(alloc, rows, &env, &Env::new(alloc));
-    drop(env);
-    match other {
-        Some(row) => Err(Fail::from(row)),
-        None => Ok(()),
-    }
+    Ok(())
 }
 
 #[test]
 fn texts_expand(rt: HostRuntime) -> Result<(), Fail> {
-    check(rt.alloc(), ROWS)
+    let env = env_of(rt.alloc(), SET)?;
+    let checked = check(rt.alloc(), ROWS, &env);
+    drop(env);
+    checked
 }

@@ -4,7 +4,7 @@ use std::alloc::{AllocError, Global};
 use std::test::Fail;
 use up_text::{Lexer, Text, TextFault, Token, next_word, without_comments};
 
-// A text, and what a lexer does with it, step by step:
+// In each row, which ends with `||`, a text, and what a lexer does with it, step by step:
 //
 // - `plain LINE TEXT`: it gives a token that is spelled without quotes and backslashes; `spelled LINE TEXT`: another one;
 // - `end`: the stanza ends; `refused LINE FAULT`: the token on this line is refused, by the number of a fault;
@@ -12,120 +12,46 @@ use up_text::{Lexer, Text, TextFault, Token, next_word, without_comments};
 // - `script TEXT`: it gives the lines of a script; `no-script`: the script has no end line;
 // - `command TEXT`: it gives the text of a command; `no-command FAULT`: that is refused;
 // - `nothing`: the text is used up, as it isn't before any other step; `more`: it isn't, since a lexer stays where it refuses.
-type Case = (&'static str, &'static str);
-
-const CASES: &'static [Case] = &[
-    // Tokens.
-    ("", "nothing"),
-    ("# \"' \\\n \t\n\n", "nothing"),
-    (
-        "\n\n a \t b # c\n#x\n  c#d\n",
-        "plain 3 a|plain 3 b|end|plain 5 c|end|nothing",
-    ),
-    (
-        "\u{e9}\u{a0}\rb\u{b}c\t\"\"#\n''",
-        "plain 1 \u{e9}\u{a0}\rb\u{b}c|spelled 1 |end|spelled 2 |end|nothing",
-    ),
-    (
-        "A=\"b c\" '\"'d\"'\" \"#\" \"a\\\"b\\c\"",
-        "spelled 1 A=b c|spelled 1 \"d'|spelled 1 #|spelled 1 a\"bc|end|nothing",
-    ),
-    (
-        "a\\ b \\# \\\" \\\\ \\\u{e9}x \"\\\u{20ac}\"",
-        "spelled 1 a b|spelled 1 #|spelled 1 \"|spelled 1 \\|spelled 1 \u{e9}x|spelled 1 \u{20ac}|end|nothing",
-    ),
-    (
-        "a \\\n\\\n b\\\nc # d \\\ne",
-        "plain 1 a|plain 3 b|plain 4 c|end|plain 5 e|end|nothing",
-    ),
-    (
-        "\"a  \\\n  b\" \"a\nb\" \"a  b \" \"c\\ \n d\"\nz",
-        "spelled 1 a b|spelled 2 a b|spelled 3 a  b |spelled 3 c  d|end|plain 5 z|end|nothing",
-    ),
-    (
-        "x\na\" y\n\nz",
-        "plain 1 x|end|refused 2 5|refused 2 5|more",
-    ),
-    ("\n'a\\", "refused 2 5|refused 2 5|more"),
-    ("b\\", "refused 1 7|refused 1 7|more"),
-    ("(a)", "plain 1 (a)|end|nothing"),
-    // Parentheses.
-    (
-        "on a(b # c\n \n\"(\"\\)c) d)\ne (f\ng)",
-        "plain 1 on|parens on|plain 1 a|plain 1 (|plain 1 b|spelled 3 ()c|plain 3 )|plain 3 d|plain 3 )|end|plain 4 e|parens off|\
-         plain 4 (f|end|plain 5 g)|end|nothing",
-    ),
-    ("a (\n", "parens on|plain 1 a|plain 1 (|end|nothing"),
-    // Scripts.
-    (
-        "script\n\n # c\n  a \"\n end  scripts\n end \t script # x\nb\n",
-        "plain 1 script|end|script \n # c\n  a \"\n end  scripts\n|plain 7 b|end|nothing",
-    ),
-    ("script\nend script", "plain 1 script|end|script |nothing"),
-    (
-        "script\nend script#c\nend script #c\nb",
-        "plain 1 script|end|script end script#c\n|plain 4 b|end|nothing",
-    ),
-    (
-        "script\nend scripts\nend",
-        "plain 1 script|end|no-script|plain 2 end|plain 2 scripts|end|plain 3 end|end|nothing",
-    ),
-    // Commands.
-    (
-        "exec  a 'b  c' \"d\\\"\" \\e\t# f\ng",
-        "plain 1 exec|command a 'b  c' \"d\\\"\" \\e|end|plain 2 g|end|nothing",
-    ),
-    (
-        "exec \t a  \t b \t\nc",
-        "plain 1 exec|command a  \t b|end|plain 2 c|end|nothing",
-    ),
-    (
-        "exec a#b\nexec a \\# '#'#\nexec a\\ \nc",
-        "plain 1 exec|command a|end|plain 2 exec|command a \\# '#'|end|plain 3 exec|command a\\ |end|plain 4 c|end|nothing",
-    ),
-    (
-        "exec\nexec \t# a\nexec \\\n\t\nb\nexec",
-        "plain 1 exec|command |end|plain 2 exec|command |end|plain 3 exec|command |end|plain 5 b|end|plain 6 exec|command |end|nothing",
-    ),
-    (
-        "exec a b c d\nexec e f\ng",
-        "plain 1 exec|plain 1 a|command b c d|command |end|plain 2 exec|command e f|end|plain 3 g|end|nothing",
-    ),
-    (
-        "exec (a) \u{e9}\u{a0} '\u{20ac}' \\\u{e9}) # b\nc (d)",
-        "plain 1 exec|parens on|command (a) \u{e9}\u{a0} '\u{20ac}' \\\u{e9})|end|plain 2 c|plain 2 (|plain 2 d|plain 2 )|end|nothing",
-    ),
-    (
-        "exec \" ' \" ' \" ' $ \\\\ # \"",
-        "plain 1 exec|command \" ' \" ' \" ' $ \\\\|end|nothing",
-    ),
-    // Commands over several lines.
-    (
-        "exec a \\\n  \\\n\t b\\\nc\nd",
-        "plain 1 exec|command a b c|end|plain 5 d|end|nothing",
-    ),
-    (
-        "exec \\\n a  b \\\n # c\nd",
-        "plain 1 exec|command a  b|end|plain 4 d|end|nothing",
-    ),
-    (
-        "exec \"a  \\\n  b\" 'c \n\n d' \"e\\ \nf\"\ng",
-        "plain 1 exec|command \"a b\" 'c d' \"e\\  f\"|end|plain 6 g|end|nothing",
-    ),
-    // Commands that are refused.
-    (
-        "exec a \"b\n\nc",
-        "plain 1 exec|no-command 5|no-command 5|plain 1 a|refused 1 5|more",
-    ),
-    (
-        "exec a \\\n b\\",
-        "plain 1 exec|no-command 7|no-command 7|plain 1 a|refused 2 7|more",
-    ),
-    (
-        "exec a # '\nb",
-        "plain 1 exec|command a|end|plain 2 b|end|nothing",
-    ),
-];
+const ROWS: &'static str = "\
+# Tokens.||
+|nothing||
+# \"' \\\n \t\n\n|nothing||
+\n\n a \t b # c\n#x\n  c#d\n|plain 3 a|plain 3 b|end|plain 5 c|end|nothing||
+\u{e9}\u{a0}\rb\u{b}c\t\"\"#\n''|plain 1 \u{e9}\u{a0}\rb\u{b}c|spelled 1 |end|spelled 2 |end|nothing||
+A=\"b c\" '\"'d\"'\" \"#\" \"a\\\"b\\c\"|spelled 1 A=b c|spelled 1 \"d'|spelled 1 #|spelled 1 a\"bc|end|nothing||
+a\\ b \\# \\\" \\\\ \\\u{e9}x \"\\\u{20ac}\"|spelled 1 a b|spelled 1 #|spelled 1 \"|spelled 1 \\|spelled 1 \u{e9}x|spelled 1 \u{20ac}|end|nothing||
+a \\\n\\\n b\\\nc # d \\\ne|plain 1 a|plain 3 b|plain 4 c|end|plain 5 e|end|nothing||
+\"a  \\\n  b\" \"a\nb\" \"a  b \" \"c\\ \n d\"\nz|spelled 1 a b|spelled 2 a b|spelled 3 a  b |spelled 3 c  d|end|plain 5 z|end|nothing||
+x\na\" y\n\nz|plain 1 x|end|refused 2 5|refused 2 5|more||
+\n'a\\|refused 2 5|refused 2 5|more||
+b\\|refused 1 7|refused 1 7|more||
+(a)|plain 1 (a)|end|nothing||
+# Parentheses.||
+on a(b # c\n \n\"(\"\\)c) d)\ne (f\ng)|plain 1 on|parens on|plain 1 a|plain 1 (|plain 1 b|spelled 3 ()c|plain 3 )|plain 3 d|plain 3 )|end|\
+plain 4 e|parens off|plain 4 (f|end|plain 5 g)|end|nothing||
+a (\n|parens on|plain 1 a|plain 1 (|end|nothing||
+# Scripts.||
+script\n\n # c\n  a \"\n end  scripts\n end \t script # x\nb\n|plain 1 script|end|script \n # c\n  a \"\n end  scripts\n|plain 7 b|end|nothing||
+script\nend script|plain 1 script|end|script |nothing||
+script\nend script#c\nend script #c\nb|plain 1 script|end|script end script#c\n|plain 4 b|end|nothing||
+script\nend scripts\nend|plain 1 script|end|no-script|plain 2 end|plain 2 scripts|end|plain 3 end|end|nothing||
+# Commands.||
+exec  a 'b  c' \"d\\\"\" \\e\t# f\ng|plain 1 exec|command a 'b  c' \"d\\\"\" \\e|end|plain 2 g|end|nothing||
+exec \t a  \t b \t\nc|plain 1 exec|command a  \t b|end|plain 2 c|end|nothing||
+exec a#b\nexec a \\# '#'#\nexec a\\ \nc|plain 1 exec|command a|end|plain 2 exec|command a \\# '#'|end|plain 3 exec|command a\\ |end|plain 4 c|end|nothing||
+exec\nexec \t# a\nexec \\\n\t\nb\nexec|plain 1 exec|command |end|plain 2 exec|command |end|plain 3 exec|command |end|plain 5 b|end|plain 6 exec|command |end|nothing||
+exec a b c d\nexec e f\ng|plain 1 exec|plain 1 a|command b c d|command |end|plain 2 exec|command e f|end|plain 3 g|end|nothing||
+exec (a) \u{e9}\u{a0} '\u{20ac}' \\\u{e9}) # b\nc (d)|plain 1 exec|parens on|command (a) \u{e9}\u{a0} '\u{20ac}' \\\u{e9})|end|plain 2 c|plain 2 (|plain 2 d|plain 2 )|end|nothing||
+exec \" ' \" ' \" ' $ \\\\ # \"|plain 1 exec|command \" ' \" ' \" ' $ \\\\|end|nothing||
+# Commands over several lines.||
+exec a \\\n  \\\n\t b\\\nc\nd|plain 1 exec|command a b c|end|plain 5 d|end|nothing||
+exec \\\n a  b \\\n # c\nd|plain 1 exec|command a  b|end|plain 4 d|end|nothing||
+exec \"a  \\\n  b\" 'c \n\n d' \"e\\ \nf\"\ng|plain 1 exec|command \"a b\" 'c d' \"e\\  f\"|end|plain 6 g|end|nothing||
+# Commands that are refused.||
+exec a \"b\n\nc|plain 1 exec|no-command 5|no-command 5|plain 1 a|refused 1 5|more||
+exec a \\\n b\\|plain 1 exec|no-command 7|no-command 7|plain 1 a|refused 2 7|more||
+exec a # '\nb|plain 1 exec|command a|end|plain 2 b|end|nothing||
+";
 
 // What stands behind the number of a line, if it is this line.
 fn after_line(words: &str, line: u32) -> Option<&str> {
@@ -206,7 +132,6 @@ fn takes(alloc: Global, lexer: &mut Lexer, step: &str) -> bool {
         return word == "nothing";
     }
     match word {
-        "nothing" => false,
         "more" => true,
         "parens" => {
             lexer.parens(words == "on");
@@ -219,23 +144,27 @@ fn takes(alloc: Global, lexer: &mut Lexer, step: &str) -> bool {
     }
 }
 
-// The place of the first step that a lexer doesn't take.
-fn first_other(alloc: Global, lexer: &mut Lexer, steps: &str) -> Option<usize> {
-    for (place, step) in steps.split('|').enumerate() {
-        if !takes(alloc, lexer, step) {
-            return Some(place);
+fn is_read(alloc: Global, text: &str, steps: &str) -> bool {
+    if text.len() > 99 {
+        return false;
+    }
+    let mut lexer = Lexer::new(text);
+    for step in steps.split('|') {
+        if !takes(alloc, &mut lexer, step) {
+            return false;
         }
     }
-    None
+    true
 }
 
-fn check(alloc: Global, cases: &[Case]) -> Result<(), Fail> {
-    for case in cases {
-        if case.0.len() > 99 {
-            return Err(Fail::from(case.0));
-        }
-        if let Some(step) = first_other(alloc, &mut Lexer::new(case.0), case.1) {
-            return Err(Fail::new(format_args!("{:?}: step {step}", case.0)));
+fn check(alloc: Global, rows: &'static str) -> Result<(), Fail> {
+    for row in rows.split_terminator("||\n") {
+        let holds = match row.split_once('|') {
+            Some((text, steps)) => is_read(alloc, text, steps),
+            None => row.starts_with("# "),
+        };
+        if !holds {
+            return Err(Fail::from(row));
         }
     }
     Ok(())
@@ -243,7 +172,7 @@ fn check(alloc: Global, cases: &[Case]) -> Result<(), Fail> {
 
 #[test]
 fn lexers_read(rt: HostRuntime) -> Result<(), Fail> {
-    check(rt.alloc(), CASES)
+    check(rt.alloc(), ROWS)
 }
 
 // Texts, each with its first word and what stands after it.
@@ -293,7 +222,7 @@ fn leaves(alloc: Global, text: &[u8], left: &[u8]) -> Result<bool, AllocError> {
 fn check_comments(alloc: Global, cases: &[(&[u8], &[u8])]) -> Result<(), Fail> {
     for (place, case) in cases.iter().enumerate() {
         if !leaves(alloc, case.0, case.1)? {
-            return Err(Fail::new(format_args!("text {place}")));
+            return Err(Fail::from(place));
         }
     }
     Ok(())

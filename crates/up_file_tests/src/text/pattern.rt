@@ -140,7 +140,7 @@ const BYTES: &'static [(&'static [u8], &'static [u8], bool)] = &[
 fn check_bytes(cases: &[(&[u8], &[u8], bool)]) -> Result<(), Fail> {
     for (place, case) in cases.iter().enumerate() {
         if !supported(case.0) || glob(case.0, case.1) != case.2 {
-            return Err(Fail::new(format_args!("case {place}")));
+            return Err(Fail::from(place));
         }
     }
     Ok(())
@@ -223,7 +223,7 @@ fn check_long(alloc: Global, cases: &[LongCase]) -> Result<(), Fail> {
         let is_matched = is_matched(alloc, pattern.as_bytes(), case);
         drop(pattern);
         if !is_matched? {
-            return Err(Fail::new(format_args!("case {place}")));
+            return Err(Fail::from(place));
         }
     }
     Ok(())
