@@ -39,12 +39,11 @@ override override conf
 fn check_paths(alloc: Global, rows: &'static str, same: bool) -> Result<(), Fail> {
     for row in rows.lines() {
         let mut folder = Folder::new(alloc);
-        let refused = match add_paths(alloc, &mut folder, row) {
-            Ok(()) => Ok(is_refused(alloc, &folder, CompileError::SameName)),
-            Err(refused) => Err(refused),
-        };
+        let added = add_paths(alloc, &mut folder, row);
+        let refused = is_refused(alloc, &folder, CompileError::SameName);
         drop(folder);
-        if refused? != same {
+        added?;
+        if refused != same {
             return Err(Fail::from(row));
         }
     }

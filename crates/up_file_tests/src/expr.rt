@@ -161,8 +161,9 @@ fn is_outcome(
     match outcome {
         "is" => Ok(are_written(alloc, condition, wanted)?),
         "leaves" => Ok(is_number(wanted, count_leaves(condition))),
-        "matches" => is_answered(alloc, condition, wanted, env, true),
-        "differs" => is_answered(alloc, condition, wanted, env, false),
+        "matches" | "differs" => {
+            is_answered(alloc, condition, wanted, env, outcome == "matches")
+        }
         _ => Ok(false),
     }
 }
@@ -185,16 +186,13 @@ fn comes_to(
     }
 }
 
-fn holds(alloc: Global, row: &str, env: &Env) -> Result<bool, Fail> {
-    match fields(row) {
-        Some((text, outcome, wanted)) => comes_to(alloc, text, outcome, wanted, env),
-        None => Ok(row.starts_with('#')),
-    }
-}
-
 fn check(alloc: Global, rows: &'static str, env: &Env) -> Result<(), Fail> {
     for row in rows.lines() {
-        if !holds(alloc, row, env)? {
+        let holds = match fields(row) {
+            Some((text, outcome, wanted)) => comes_to(alloc, text, outcome, wanted, env)?,
+            None => row.starts_with('#'),
+        };
+        if !holds {
             return Err(Fail::from(row));
         }
     }

@@ -263,14 +263,10 @@ fn copies_are(text: Result<Text, AllocError>, wanted: &str) -> Result<bool, Allo
     Ok(is_text(&text, wanted) && is_text(&copied, wanted) && is_text(&cloned, wanted))
 }
 
-fn text_of(alloc: Global, text: &str) -> Result<Text, AllocError> {
-    Ok(Text::new(String::from_str(alloc, text)?))
-}
-
 fn check_texts(alloc: Global, texts: &[&'static str]) -> Result<(), Fail> {
     for text in texts {
         if !copies_are(Text::from_str(alloc, text), text)?
-            || !copies_are(text_of(alloc, text), text)?
+            || !copies_are(Ok(Text::new(String::from_str(alloc, text)?)), text)?
         {
             return Err(Fail::from(*text));
         }
@@ -282,7 +278,9 @@ const ITEMS: &'static [u8] = &[3, 1];
 
 fn are_items(alloc: Global) -> Result<bool, AllocError> {
     let items = Items::new(vec![in alloc; 3, 1]?);
-    Ok(items.as_slice() == ITEMS && items.into_vec().as_slice() == ITEMS)
+    let are_lent = items.as_slice() == ITEMS;
+    let taken = items.into_vec();
+    Ok(are_lent && taken.as_slice() == ITEMS)
 }
 
 #[test]

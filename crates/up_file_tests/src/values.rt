@@ -64,16 +64,13 @@ fn is(kind: &str, answer: &str, text: &str) -> bool {
     }
 }
 
-fn is_told(row: &str) -> bool {
-    match fields(row) {
-        Some((kind, answer, text)) => is(kind, answer, text),
-        None => false,
-    }
-}
-
 fn check_texts(rows: &'static str) -> Result<(), Fail> {
     for row in rows.split_terminator("||\n") {
-        if !is_told(row) {
+        let holds = match fields(row) {
+            Some((kind, answer, text)) => is(kind, answer, text),
+            None => false,
+        };
+        if !holds {
             return Err(Fail::from(row));
         }
     }
@@ -111,21 +108,15 @@ fn texts_and_bytes_are_of_a_kind(rt: HostRuntime) -> Result<(), Fail> {
     check_texts(TEXTS)
 }
 
-fn same(alloc: Global, key: &str, value: &str) -> Result<Test, AllocError> {
-    let key = Text::from_str(alloc, key)?;
-    match Text::from_str(alloc, value) {
-        Ok(value) => Ok(Test::Same(key, value)),
-        Err(refused) => {
-            drop(key);
-            Err(refused)
-        }
-    }
-}
-
 fn push_tests(alloc: Global, tests: &mut Vec<Test>) -> Result<(), AllocError> {
-    tests.push(same(alloc, "RESULT", "ok")?)?;
-    tests.push(same(alloc, "JOB", "a")?)?;
-    tests.push(Test::Place(Text::from_str(alloc, "b")?))?;
+    let key = Text::from_str(alloc, "RESULT")?;
+    let value = Text::from_str(alloc, "ok")?;
+    tests.push(Test::Same(key, value))?;
+    let key = Text::from_str(alloc, "JOB")?;
+    let value = Text::from_str(alloc, "a")?;
+    tests.push(Test::Same(key, value))?;
+    let value = Text::from_str(alloc, "b")?;
+    tests.push(Test::Place(value))?;
     Ok(())
 }
 

@@ -176,16 +176,21 @@ pub(crate) fn states_all(job: &JobDef, facts: &[Fact]) -> bool {
     true
 }
 
-fn says(
+fn check_job(
     alloc: Global,
+    name: &'static str,
     conf: &[u8],
     over: Option<&[u8]>,
     facts: &[Fact],
-) -> Result<bool, ConfFault> {
+) -> Result<(), Fail> {
     let job = job(alloc, conf, over)?;
     let states_all = states_all(&job, facts);
     drop(job);
-    Ok(states_all)
+    if states_all {
+        Ok(())
+    } else {
+        Err(Fail::from(name))
+    }
 }
 
 // A file, its override if it has one, and what its job says.
@@ -198,9 +203,7 @@ struct Case {
 
 fn check(alloc: Global, cases: &[Case]) -> Result<(), Fail> {
     for case in cases {
-        if !says(alloc, case.conf, case.over, case.facts)? {
-            return Err(Fail::from(case.name));
-        }
+        check_job(alloc, case.name, case.conf, case.over, case.facts)?;
     }
     Ok(())
 }
@@ -302,14 +305,10 @@ const MANY_KEYS: &'static [Fact] = &[Fact::Keys(30_000, 30_000)];
 #[test]
 fn many_keys_are_set(rt: HostRuntime) -> Result<(), Fail> {
     let mut text = String::new(rt.alloc());
-    let says = match push_keys(&mut text, 30_000) {
-        Ok(()) => says(rt.alloc(), text.as_bytes(), None, MANY_KEYS),
-        Err(refused) => Err(ConfFault::from(refused)),
+    let checked = match push_keys(&mut text, 30_000) {
+        Ok(()) => check_job(rt.alloc(), "many keys", text.as_bytes(), None, MANY_KEYS),
+        Err(refused) => Err(Fail::from(refused)),
     };
     drop(text);
-    if says? {
-        Ok(())
-    } else {
-        Err(Fail::from("other keys"))
-    }
+    checked
 }
