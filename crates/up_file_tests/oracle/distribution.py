@@ -12,31 +12,26 @@ import pathlib
 
 DISTRIBUTION = pathlib.Path(__file__).resolve().parents[3] / "examples" / "distribution"
 
-HEAD = """//! The job files and overrides of the folder `examples/distribution`.
+HEAD = """//! The job files and overrides of the folder `examples/distribution`, each below a line `%file PATH`.
 //!
 //! Written by oracle/distribution.py.
 
-pub(crate) const DISTRIBUTION: &'static [(&'static str, &'static [u8])] = &[
 """
-
-NAMED = {ord("\\"): "\\\\", ord('"'): '\\"', ord("\t"): "\\t"}
 
 
 def in_literal(line):
-    """A line as it stands in a literal of bytes, whose lines lose their blanks in front."""
-    escaped = "".join(NAMED.get(it) or (chr(it) if 32 <= it < 127 else f"\\x{it:02x}") for it in line)
+    """A line of a text as it stands in a literal, whose lines lose their blanks in front."""
+    escaped = line.replace("\\", "\\\\").replace('"', '\\"').replace("\t", "\\t").replace("\n", "\\n\\\n")
     return "\\x20" + escaped[1:] if escaped.startswith(" ") else escaped
-
-
-def literal(data):
-    lines = data.split(b"\n")
-    return 'b"\\\n' + "\\n\\\n".join(in_literal(line) for line in lines) + '"'
 
 
 def main():
     paths = sorted(it for it in DISTRIBUTION.rglob("*") if it.suffix in (".conf", ".override"))
-    rows = [f'    (\n        "{path.relative_to(DISTRIBUTION)}",\n        {literal(path.read_bytes())},\n    ),\n' for path in paths]
-    print(HEAD + "".join(rows) + "];")
+    files = [f"%file {path.relative_to(DISTRIBUTION)}\n{path.read_text(encoding='utf-8')}" for path in paths]
+    text = "".join(files)
+    assert text.count("%file ") == len(files)
+    lines = "".join(in_literal(line) for line in text.splitlines(keepends=True))
+    print(f"{HEAD}pub(crate) const DISTRIBUTION: &'static str = \"\\\n{lines}\";")
 
 
 main()

@@ -1,17 +1,18 @@
 //! The nodes of expressions: of some that are made by hand, and of a file's.
-ghost use Rattle.std.specs.Prelude.{◌≡◌, IfOk};
+ghost use Rattle.std.specs.Prelude.{◌≡◌, [], IfOk};
 ghost use Rattle.up_expr.specs.Flat.{size};
 ghost use Rattle.up_expr.specs.Trees.{tree_of};
 
 use crate::expr::is_written;
 use crate::images::folders::table_of;
+use crate::images::holds;
 use std::alloc::{AllocError, Global};
 use std::test::Fail;
 use up_expr::{Builder, Condition, Expr, Leaf, Node, Nodes, flatten};
 use up_image::Table;
-use up_text::{Items, Name};
+use up_text::{Items, Name, TextFault};
 
-fn leaf_of(alloc: Global, event: &str) -> Result<Leaf, Fail> {
+fn leaf_of(alloc: Global, event: &str) -> Result<Leaf, TextFault> {
     let event = Name::new(alloc, event)?;
     Ok(Leaf {
         event,
@@ -78,62 +79,76 @@ fn are_said(nodes: &Nodes, said: &[Said]) -> bool {
     true
 }
 
-// Whether the nodes of a condition are these, and it is written so.
+// Whether the nodes of a condition are these, and it is written so. Large values are dropped by a call, here and below: the prover would go
+// through each field of what a scope drops.
 fn shows(
     alloc: Global,
-    condition: &Condition,
+    condition: Condition,
     said: &[Said],
     tree: &str,
 ) -> Result<bool, AllocError> {
-    Ok(are_said(condition.nodes(), said) && is_written(alloc, condition, tree)?)
+    let are_said = are_said(condition.nodes(), said);
+    let is_written = is_written(alloc, &condition, tree);
+    drop(condition);
+    Ok(are_said && is_written?)
 }
 
-// Whether the expression is laid flat, and a condition made of it, both as they should be.
-fn is_made(alloc: Global, expr: &Expr) -> Result<bool, Fail>
+// Whether the expression is laid flat as it should be.
+fn is_flat(alloc: Global, expr: &Expr) -> Result<bool, AllocError>
     requires { size (tree_of expr.now) ≡ 5 }
 {
     let nodes = flatten(alloc, expr)?;
     let flat = are_said(&nodes, NODES);
     drop(nodes);
-    let condition = Condition::new(alloc, expr)?;
-    let shows = shows(alloc, &condition, NODES, TREE);
-    drop(condition);
-    Ok(flat && shows?)
+    Ok(flat)
+}
+
+// So should a condition be that is made of it.
+fn is_made(alloc: Global, expr: &Expr) -> Result<bool, AllocError>
+    requires { size (tree_of expr.now) ≡ 5 }
+{
+    Ok(is_flat(alloc, expr)? && shows(alloc, Condition::new(alloc, expr)?, NODES, TREE)?)
+}
+
+fn makes(alloc: Global, expr: Expr) -> Result<bool, AllocError>
+    requires { size (tree_of expr) ≡ 5 }
+{
+    let made = is_made(alloc, &expr);
+    drop(expr);
+    made
 }
 
 #[test]
 fn an_expression_is_laid_flat(rt: HostRuntime) -> Result<(), Fail> {
     let expr = expr_of(rt.alloc())?;
-    let made = is_made(rt.alloc(), &expr);
-    drop(expr);
-    assert!(rt; made?);
+    if !holds(makes(rt.alloc(), expr)) {
+        return Err(Fail::from("its nodes are others"));
+    }
     Ok(())
 }
 
-// Whether one leaf alone is joined.
-fn joins_one(alloc: Global) -> Result<bool, Fail> {
-    let leaf = leaf_of(alloc, "b")?;
-    let mut builder = Builder::new(alloc);
-    builder.leaf(leaf)?;
-    Ok(builder.join(true)?)
-}
-
-// The condition of two leaves: both, or one or the other.
-fn built(alloc: Global, both: bool) -> Result<Condition, Fail> {
-    let mut builder = Builder::new(alloc);
+// Whether one leaf alone isn't joined, and two are: both, or one or the other.
+fn joins(alloc: Global, builder: &mut Builder, both: bool) -> Result<bool, TextFault>
+    requires { builder.old ≡ [] }
+{
     builder.leaf(leaf_of(alloc, "b")?)?;
-    builder.leaf(leaf_of(alloc, "c")?)?;
-    if !builder.join(both)? || builder.len() != 1 {
-        return Err(Fail::from("two leaves weren't joined"));
+    if builder.join(both)? {
+        return Ok(false);
     }
-    Ok(builder.finish())
+    builder.leaf(leaf_of(alloc, "c")?)?;
+    Ok(builder.join(both)?)
 }
 
-fn is_built(alloc: Global, both: bool, said: &[Said], tree: &str) -> Result<bool, Fail> {
-    let condition = built(alloc, both)?;
-    let shows = shows(alloc, &condition, said, tree);
-    drop(condition);
-    Ok(shows?)
+fn is_built(alloc: Global, both: bool, said: &[Said], tree: &str) -> Result<bool, TextFault> {
+    let mut builder = Builder::new(alloc);
+    let joined = joins(alloc, &mut builder, both);
+    if builder.len() == 1 {
+        let shows = shows(alloc, builder.finish(), said, tree);
+        Ok(joined? && shows?)
+    } else {
+        drop(builder);
+        Ok(false)
+    }
 }
 
 const EITHER: &'static [Said] = &[Said::Leaf("b"), Said::Leaf("c"), Said::Or(0, 1)];
@@ -141,17 +156,18 @@ const EITHER: &'static [Said] = &[Said::Leaf("b"), Said::Leaf("c"), Said::Or(0, 
 const BOTH: &'static [Said] = &[Said::Leaf("b"), Said::Leaf("c"), Said::And(0, 1)];
 
 #[test]
-fn a_condition_is_built(rt: HostRuntime) -> Result<(), Fail> {
-    assert!(rt; !joins_one(rt.alloc())?);
-    assert!(rt; is_built(rt.alloc(), false, EITHER, "(b or c)")?);
-    assert!(rt; is_built(rt.alloc(), true, BOTH, "(b and c)")?);
-    Ok(())
+fn a_condition_is_built(rt: HostRuntime) {
+    assert!(rt;
+        holds(is_built(rt.alloc(), false, EITHER, "(b or c)"))
+            && holds(is_built(rt.alloc(), true, BOTH, "(b and c)"))
+    );
 }
 
-const FILES: &'static [(&'static str, &'static [u8])] = &[(
-    "a.conf",
-    b"start on (A and B) or (C and D)\nexec x\n",
-)];
+const FILES: &'static str = "\
+%file a.conf
+start on (A and B) or (C and D)
+exec x
+";
 
 const IN_POST_ORDER: &'static [Said] = &[
     Said::Leaf("A"),
@@ -174,11 +190,17 @@ fn starts_on(table: &Table, said: &[Said]) -> bool {
     }
 }
 
+fn file_starts_on(table: Table, said: &[Said]) -> bool {
+    let starts = starts_on(&table, said);
+    drop(table);
+    starts
+}
+
 #[test]
 fn nodes_stand_in_post_order(rt: HostRuntime) -> Result<(), Fail> {
     let table = table_of(rt.alloc(), FILES)?;
-    let starts = starts_on(&table, IN_POST_ORDER);
-    drop(table);
-    assert!(rt; starts);
+    if !file_starts_on(table, IN_POST_ORDER) {
+        return Err(Fail::from("its nodes are others"));
+    }
     Ok(())
 }

@@ -8,75 +8,45 @@ mod memory;
 mod walk;
 
 use crate::images::folders::{
-    EMPTY_IMAGE, MANY, OLD_EMPTY_IMAGE, OLD_STARTUP_IMAGE, STARTUP, STARTUP_IMAGE, again, image_of,
+    EMPTY_IMAGE, MANY, OLD_EMPTY_IMAGE, OLD_STARTUP_IMAGE, STARTUP, STARTUP_IMAGE, becomes,
+    comes_back, has_image, image_of,
 };
 use std::alloc::Global;
 use std::test::Fail;
 use up_image::{ImageError, Table};
 
-// The files of a folder, and its image in both versions.
-type Case = (
-    &'static [(&'static str, &'static [u8])],
-    &'static [u8],
-    &'static [u8],
-);
-
-const CASES: &'static [Case] = &[
-    (STARTUP, STARTUP_IMAGE, OLD_STARTUP_IMAGE),
-    (&[], EMPTY_IMAGE, OLD_EMPTY_IMAGE),
-];
-
-// Whether the table of an image has this image.
-fn becomes(alloc: Global, image: &[u8], wanted: &[u8]) -> Result<bool, ImageError> {
-    match again(alloc, image) {
-        Ok(second) => {
-            let is_wanted = second.as_slice() == wanted;
-            drop(second);
-            Ok(is_wanted)
-        }
-        Err(error) => Err(error),
+/// Whether something holds, and could be tried.
+pub(crate) fn holds<E: Drop>(held: Result<bool, E>) -> bool {
+    match held {
+        Ok(is_so) => is_so,
+        Err(_) => false,
     }
 }
 
-/// Whether the table that is read from an image has the same image.
-pub(crate) fn comes_back(alloc: Global, image: &[u8]) -> Result<bool, ImageError> {
-    becomes(alloc, image, image)
-}
-
-fn has_image(alloc: Global, case: &Case) -> Result<bool, Fail> {
-    let image = image_of(alloc, case.0)?;
-    let is_its = image.as_slice() == case.1;
-    drop(image);
-    Ok(is_its)
-}
-
-fn is_read(alloc: Global, case: &Case) -> Result<bool, ImageError> {
-    Ok(comes_back(alloc, case.1)? && becomes(alloc, case.2, case.1)?)
-}
-
-fn check_images(alloc: Global, cases: &[Case]) -> Result<(), Fail> {
-    for (place, case) in cases.iter().enumerate() {
-        if !has_image(alloc, case)? || !is_read(alloc, case)? {
-            return Err(Fail::from(place));
-        }
-    }
-    Ok(())
+// Whether the files of a folder have this image, and both it and that of version 1 are read.
+fn is_kept(alloc: Global, files: &str, image: &[u8], old: &[u8]) -> bool {
+    holds(has_image(alloc, files, image))
+        && holds(comes_back(alloc, image))
+        && holds(becomes(alloc, old, image))
 }
 
 #[test]
-fn image_bytes(rt: HostRuntime) -> Result<(), Fail> {
-    check_images(rt.alloc(), CASES)
+fn image_bytes(rt: HostRuntime) {
+    assert!(rt;
+        is_kept(rt.alloc(), STARTUP, STARTUP_IMAGE, OLD_STARTUP_IMAGE)
+            && is_kept(rt.alloc(), "", EMPTY_IMAGE, OLD_EMPTY_IMAGE)
+    );
 }
 
 // Whether an image is that of one job, with this name, or of none.
-fn is_of(alloc: Global, image: &[u8], name: Option<&str>) -> Result<bool, ImageError> {
+fn is_of(alloc: Global, image: &[u8], name: Option<&str>) -> bool {
     match Table::from_bytes(alloc, image) {
         Ok(table) => {
             let is_its = has_job(&table, name);
             drop(table);
-            Ok(is_its)
+            is_its
         }
-        Err(error) => Err(error),
+        Err(_) => false,
     }
 }
 
@@ -88,19 +58,23 @@ fn has_job(table: &Table, name: Option<&str>) -> bool {
 }
 
 #[test]
-fn an_image_gives_its_table_back(rt: HostRuntime) -> Result<(), Fail> {
-    assert!(rt; is_of(rt.alloc(), STARTUP_IMAGE, Some("a"))?);
-    assert!(rt; is_of(rt.alloc(), EMPTY_IMAGE, None)?);
-    Ok(())
+fn an_image_gives_its_table_back(rt: HostRuntime) {
+    assert!(rt;
+        is_of(rt.alloc(), STARTUP_IMAGE, Some("a")) && is_of(rt.alloc(), EMPTY_IMAGE, None)
+    );
+}
+
+/// Whether the image of a folder with every stanza is read and written again.
+pub(crate) fn many_come_back(alloc: Global) -> Result<bool, ImageError> {
+    let image = image_of(alloc, MANY)?;
+    let back = comes_back(alloc, image.as_slice());
+    drop(image);
+    back
 }
 
 #[test]
-fn every_stanza_comes_back(rt: HostRuntime) -> Result<(), Fail> {
-    let image = image_of(rt.alloc(), MANY)?;
-    let back = comes_back(rt.alloc(), image.as_slice());
-    drop(image);
-    assert!(rt; back?);
-    Ok(())
+fn every_stanza_comes_back(rt: HostRuntime) {
+    assert!(rt; holds(many_come_back(rt.alloc())));
 }
 
 const ERRORS: &'static [(ImageError, u8, &'static str)] = &[

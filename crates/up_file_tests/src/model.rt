@@ -1,8 +1,9 @@
 //! Copies of values, and the names of commands.
-use crate::conf::folder_of;
+use crate::images::folders::table_of;
+use crate::text::{Pair, env_of};
 use std::alloc::{AllocError, Global};
 use std::test::Fail;
-use up_image::{Table, compile};
+use up_image::Table;
 use up_model::{Answer, Command, Event, How, Input, Loaded, Order, Output, Process, Request, Who};
 use up_text::{Env, Items, Name, Text, TextFault};
 
@@ -12,16 +13,11 @@ fn who(alloc: Global) -> Result<Who, TextFault> {
     Ok(Who { job, instance })
 }
 
-fn vars(alloc: Global) -> Result<Env, TextFault> {
-    let mut vars = Env::new(alloc);
-    vars.set("A", "1")?;
-    vars.set("B", "2")?;
-    Ok(vars)
-}
+const VARS: &'static [Pair] = &[("A", "1"), ("B", "2")];
 
 fn request(alloc: Global) -> Result<Request, TextFault> {
     let name = Text::from_str(alloc, "a")?;
-    match Request::new(Command::Start, true, name, vars(alloc)?) {
+    match Request::new(Command::Start, true, name, env_of(alloc, VARS)?) {
         Some(request) => Ok(request),
         None => Err(TextFault::BadName),
     }
@@ -44,7 +40,7 @@ fn is_request(request: &Request) -> bool {
 
 fn event(alloc: Global) -> Result<Event, TextFault> {
     let name = Name::new(alloc, "go")?;
-    let vars = vars(alloc)?;
+    let vars = env_of(alloc, VARS)?;
     Ok(Event { name, vars })
 }
 
@@ -54,22 +50,10 @@ fn is_event(event: &Event) -> bool {
 
 const PROCESS: Process = Process::PostStop;
 
-// The table of a folder with one job.
-fn table(alloc: Global) -> Result<Table, TextFault> {
-    let folder = folder_of(alloc, &[("a.conf", b"exec /bin/d\n")])?;
-    let compiled = compile(alloc, &folder);
-    drop(folder);
-    match compiled {
-        Ok((table, report)) => {
-            drop(report);
-            Ok(table)
-        }
-        Err(_) => Err(TextFault::BadName),
-    }
-}
+const JOB: &'static str = "%file a.conf\nexec /bin/d\n";
 
 // One input of each kind, and one for each outcome of a load.
-fn input(alloc: Global, kind: u8) -> Result<Input, TextFault> {
+fn input(alloc: Global, kind: u8) -> Result<Input, Fail> {
     let made = match kind {
         0 => Input::Request {
             id: 7,
@@ -94,7 +78,7 @@ fn input(alloc: Global, kind: u8) -> Result<Input, TextFault> {
         6 => Input::Turn,
         7 => Input::Load {
             id: 8,
-            loaded: Loaded::Files(table(alloc)?),
+            loaded: Loaded::Files(table_of(alloc, JOB)?),
         },
         8 => Input::Load {
             id: 8,
@@ -108,10 +92,14 @@ fn input(alloc: Global, kind: u8) -> Result<Input, TextFault> {
     Ok(made)
 }
 
+fn is_table(table: &Table) -> bool {
+    table.len() == 1 && table.job(0).name.as_str() == "a"
+}
+
 // Whether it is what the load of this kind came to.
 fn is_loaded(kind: u8, loaded: &Loaded) -> bool {
     match loaded {
-        Loaded::Files(table) => kind == 7 && table.len() == 1 && table.job(0).name.as_str() == "a",
+        Loaded::Files(table) => kind == 7 && is_table(table),
         Loaded::Refused(number) => kind == 8 && *number == 32,
         Loaded::Unread => kind == 9,
     }
@@ -135,49 +123,53 @@ fn is_input(kind: u8, input: &Input) -> bool {
     }
 }
 
-// Large values are dropped by a call, here and below: the prover would go through each field of what a scope drops.
+fn is_request_copy(copied: Request) -> bool {
+    let is_request = is_request(&copied);
+    drop(copied);
+    is_request
+}
+
+fn is_event_copy(copied: Event) -> bool {
+    let is_event = is_event(&copied);
+    drop(copied);
+    is_event
+}
+
+fn is_who_copy(copied: Who) -> bool {
+    let is_who = is_who(&copied);
+    drop(copied);
+    is_who
+}
+
 fn part_is_copied(input: &Input) -> Result<bool, AllocError> {
     match input {
-        Input::Request { request, .. } => {
-            let copied = request.copy()?;
-            let is_request = is_request(&copied);
-            drop(copied);
-            Ok(is_request)
-        }
-        Input::Emit(event) => {
-            let copied = event.copy()?;
-            let is_event = is_event(&copied);
-            drop(copied);
-            Ok(is_event)
-        }
-        Input::Spawned { who, .. } => {
-            let copied = who.copy()?;
-            let is_who = is_who(&copied);
-            drop(copied);
-            Ok(is_who)
-        }
+        Input::Request { request, .. } => Ok(is_request_copy(request.copy()?)),
+        Input::Emit(event) => Ok(is_event_copy(event.copy()?)),
+        Input::Spawned { who, .. } => Ok(is_who_copy(who.copy()?)),
         _ => Ok(true),
     }
 }
 
-fn copy_is_input(alloc: Global, kind: u8, input: &Input) -> Result<bool, AllocError> {
-    let copied = input.copy(alloc)?;
+// Whether a copy is the input, and parts of it are copied. Large values are dropped by a call, here and below: the prover would go through
+// each field of what a scope drops.
+fn is_input_copy(kind: u8, copied: Input) -> Result<bool, AllocError> {
     let is_input = is_input(kind, &copied);
+    let part_is_copied = part_is_copied(&copied);
     drop(copied);
-    Ok(is_input && part_is_copied(input)?)
+    Ok(is_input && part_is_copied?)
 }
 
-fn input_is_copied(alloc: Global, kind: u8) -> Result<bool, TextFault> {
+fn input_is_copied(alloc: Global, kind: u8) -> Result<bool, Fail> {
     let input = input(alloc, kind)?;
-    let copied = copy_is_input(alloc, kind, &input);
+    let copied = input.copy(alloc);
     drop(input);
-    Ok(copied?)
+    Ok(is_input_copy(kind, copied?)?)
 }
 
 fn check_inputs(alloc: Global) -> Result<(), Fail> {
     for kind in 0..10u8 {
         if !input_is_copied(alloc, kind)? {
-            return Err(Fail::new(format_args!("kind {kind}")));
+            return Err(Fail::from(kind));
         }
     }
     Ok(())
@@ -190,9 +182,15 @@ fn copies_of_inputs(rt: HostRuntime) -> Result<(), Fail> {
 }
 
 fn argv(alloc: Global) -> Result<Items<Text>, AllocError> {
+    let word = Text::from_str(alloc, "/bin/d")?;
     let mut argv = Vec::new(alloc);
-    argv.push(Text::from_str(alloc, "/bin/d")?)?;
-    Ok(Items::new(argv))
+    match argv.push(word) {
+        Ok(()) => Ok(Items::new(argv)),
+        Err(refused) => {
+            drop(argv);
+            Err(refused.into())
+        }
+    }
 }
 
 fn order(alloc: Global) -> Result<Order, TextFault> {
@@ -202,7 +200,7 @@ fn order(alloc: Global) -> Result<Order, TextFault> {
         argv: argv(alloc)?,
         dir: Text::from_str(alloc, "/")?,
         silent: true,
-        env: vars(alloc)?,
+        env: env_of(alloc, VARS)?,
     })
 }
 
@@ -215,7 +213,7 @@ fn is_order(order: &Order) -> bool {
         && are_vars(&order.env)
 }
 
-fn answer(alloc: Global) -> Result<Answer, TextFault> {
+fn answer(alloc: Global) -> Result<Answer, AllocError> {
     let text = Text::from_str(alloc, "a stop/waiting\n")?;
     Ok(Answer { ok: true, text })
 }
@@ -254,34 +252,37 @@ fn is_output(kind: u8, output: &Output) -> bool {
     }
 }
 
-fn answer_is_copied(output: &Output) -> Result<bool, AllocError> {
-    let Output::Reply { answer, .. } = output else {
-        return Ok(true);
-    };
-    let copied = answer.copy()?;
+fn is_answer_copy(copied: Answer) -> bool {
     let is_answer = is_answer(&copied);
     drop(copied);
-    Ok(is_answer)
+    is_answer
 }
 
-fn copy_is_output(alloc: Global, kind: u8, output: &Output) -> Result<bool, AllocError> {
-    let copied = output.copy(alloc)?;
+fn answer_is_copied(output: &Output) -> Result<bool, AllocError> {
+    match output {
+        Output::Reply { answer, .. } => Ok(is_answer_copy(answer.copy()?)),
+        _ => Ok(true),
+    }
+}
+
+fn is_output_copy(kind: u8, copied: Output) -> Result<bool, AllocError> {
     let is_output = is_output(kind, &copied);
+    let answer_is_copied = answer_is_copied(&copied);
     drop(copied);
-    Ok(is_output && answer_is_copied(output)?)
+    Ok(is_output && answer_is_copied?)
 }
 
 fn output_is_copied(alloc: Global, kind: u8) -> Result<bool, TextFault> {
     let output = output(alloc, kind)?;
-    let copied = copy_is_output(alloc, kind, &output);
+    let copied = output.copy(alloc);
     drop(output);
-    Ok(copied?)
+    Ok(is_output_copy(kind, copied?)?)
 }
 
 fn check_outputs(alloc: Global) -> Result<(), Fail> {
     for kind in 0..4u8 {
         if !output_is_copied(alloc, kind)? {
-            return Err(Fail::new(format_args!("kind {kind}")));
+            return Err(Fail::from(kind));
         }
     }
     Ok(())
@@ -311,11 +312,13 @@ fn check_commands(commands: &[(Command, &'static str)]) -> Result<(), Fail> {
             return Err(Fail::from(case.1));
         }
     }
+    if Command::from_name("stopped").is_some() {
+        return Err(Fail::from("stopped"));
+    }
     Ok(())
 }
 
 #[test]
-fn commands(rt: HostRuntime) -> Result<(), Fail> {
-    assert!(rt; Command::from_name("stopped").is_none());
+fn commands() -> Result<(), Fail> {
     check_commands(COMMANDS)
 }

@@ -3,10 +3,10 @@ use crate::events::files::files_of;
 use crate::text::{Pair, env_of};
 use std::alloc::{AllocError, Global};
 use std::test::Fail;
-use up_image::JobFile;
+use up_image::{ImageError, JobFile};
 use up_marks::{Finder, lesser_of};
 use up_model::Event;
-use up_text::Name;
+use up_text::{Name, TextFault};
 
 // Jobs of one stanza each, an event `go` with variables, and the first job, from one on, that it may concern.
 struct Case {
@@ -118,11 +118,15 @@ const CASES: &'static [Case] = &[
     },
 ];
 
-fn event_with(alloc: Global, pairs: &[Pair]) -> Result<Event, Fail> {
-    Ok(Event {
-        name: Name::new(alloc, "go")?,
-        vars: env_of(alloc, pairs)?,
-    })
+fn event_with(alloc: Global, pairs: &[Pair]) -> Result<Event, TextFault> {
+    let vars = env_of(alloc, pairs)?;
+    match Name::new(alloc, "go") {
+        Ok(name) => Ok(Event { name, vars }),
+        Err(fault) => {
+            drop(vars);
+            Err(fault)
+        }
+    }
 }
 
 // Whether it is the next job that is found.
@@ -132,17 +136,13 @@ fn is_next(
     event: &Event,
     case: &Case,
 ) -> Result<bool, AllocError> {
-    match Finder::of(alloc, files) {
-        Ok(finder) => {
-            let next = finder.next_job(files, event, case.from);
-            drop(finder);
-            Ok(next == case.next)
-        }
-        Err(refused) => Err(refused),
-    }
+    let finder = Finder::of(alloc, files)?;
+    let next = finder.next_job(files, event, case.from);
+    drop(finder);
+    Ok(next == case.next)
 }
 
-fn finds(alloc: Global, event: &Event, case: &Case) -> Result<bool, Fail> {
+fn finds(alloc: Global, event: &Event, case: &Case) -> Result<bool, ImageError> {
     let files = files_of(alloc, case.jobs)?;
     let is_next = is_next(alloc, files.as_slice(), event, case);
     drop(files);
@@ -153,7 +153,7 @@ fn holds(alloc: Global, case: &Case) -> Result<bool, Fail> {
     let event = event_with(alloc, case.vars)?;
     let finds = finds(alloc, &event, case);
     drop(event);
-    finds
+    Ok(finds?)
 }
 
 fn check(alloc: Global, cases: &[Case]) -> Result<(), Fail> {
@@ -170,8 +170,16 @@ fn the_next_job_is_found_by_value(rt: HostRuntime) -> Result<(), Fail> {
     check(rt.alloc(), CASES)
 }
 
+fn is_lesser(first: Option<usize>, second: Option<usize>, lesser: usize) -> bool {
+    lesser_of(first, second) == Some(lesser)
+}
+
 #[test]
 fn the_lesser_of_two_is_found(rt: HostRuntime) {
-    assert!(rt; lesser_of(Some(2), Some(1)) == Some(1) && lesser_of(Some(1), Some(2)) == Some(1));
-    assert!(rt; lesser_of(None, Some(2)) == Some(2) && lesser_of(Some(1), None) == Some(1));
+    assert!(rt;
+        is_lesser(Some(2), Some(1), 1)
+            && is_lesser(Some(1), Some(2), 1)
+            && is_lesser(None, Some(2), 2)
+            && is_lesser(Some(1), None, 1)
+    );
 }

@@ -1,13 +1,14 @@
 //! Events that are offered to the leaves of one job's `start on`.
 use crate::events::files::files_of;
 use crate::events::queue::event;
-use std::alloc::Global;
+use std::alloc::{AllocError, Global};
+use std::slice::from_ref;
 use std::test::Fail;
 use up_expr::Condition;
 use up_image::JobFile;
 use up_marks::{Index, Marks, Offer};
 use up_model::{Event, EventId};
-use up_text::Items;
+use up_text::{Items, TextFault};
 
 // A job's stanza, and what becomes of its expression if events of these names, numbered from 1, are offered to it.
 struct Case {
@@ -64,12 +65,13 @@ fn offer(
     condition: &Condition,
     id: EventId,
     event: &Event,
-) -> Result<Offer, Fail> {
+) -> Result<Option<Offer>, AllocError> {
     if !marks.fits(condition) {
-        return Err(Fail::from("the marks are of another expression"));
+        return Ok(None);
     }
     let places = index.leaves(&event.name, 0, true);
-    Ok(marks.offer(alloc, condition, places, id, event, &event.vars)?)
+    let offer = marks.offer(alloc, condition, places, id, event, &event.vars)?;
+    Ok(Some(offer))
 }
 
 fn offer_named(
@@ -79,45 +81,46 @@ fn offer_named(
     condition: &Condition,
     id: EventId,
     name: &str,
-) -> Result<Offer, Fail> {
+) -> Result<Option<Offer>, TextFault> {
     let event = event(alloc, name)?;
     let offer = offer(alloc, marks, index, condition, id, &event);
     drop(event);
-    offer
+    Ok(offer?)
 }
 
-// Offers each event; what the last one changed.
+// Offers each event; what the last one changed, if the marks are those of the expression.
 fn offer_each(
     alloc: Global,
     marks: &mut Marks,
     index: &Index,
     condition: &Condition,
     names: &[&str],
-) -> Result<Offer, Fail> {
-    let mut last = Offer {
-        kept: 0,
-        holds: false,
-    };
-    for (before, name) in names.iter().enumerate() {
-        let id = EventId {
-            key: before.saturating_add(1),
-        };
-        last = offer_named(alloc, marks, index, condition, id, *name)?;
+) -> Result<Option<Offer>, TextFault> {
+    let mut last = None;
+    let mut key = 0usize;
+    for name in names {
+        key = key.wrapping_add(1);
+        last = offer_named(alloc, marks, index, condition, EventId { key }, *name)?;
     }
     Ok(last)
 }
 
-fn are_numbered(ids: Items<EventId>, numbers: &[usize]) -> bool {
-    let its = ids.as_slice();
-    if its.len() != numbers.len() {
+fn are_numbered(ids: &[EventId], numbers: &[usize]) -> bool {
+    if ids.len() != numbers.len() {
         return false;
     }
     for at in 0..numbers.len() {
-        if its[at].key != numbers[at] {
+        if ids[at].key != numbers[at] {
             return false;
         }
     }
     true
+}
+
+fn have_numbers(ids: Items<EventId>, numbers: &[usize]) -> bool {
+    let are_numbered = are_numbered(ids.as_slice(), numbers);
+    drop(ids);
+    are_numbered
 }
 
 // Whether these events are taken, and these given up after that.
@@ -126,13 +129,20 @@ fn is_cleared(
     marks: &mut Marks,
     condition: &Condition,
     case: &Case,
-) -> Result<bool, Fail> {
-    if !marks.fits(condition) {
-        return Err(Fail::from("the marks are of another expression"));
+) -> Result<bool, AllocError> {
+    Ok(
+        marks.fits(condition)
+            && have_numbers(marks.taken(alloc, condition)?, case.taken)
+            && have_numbers(marks.clear(alloc)?, case.cleared)
+            && !marks.holds(),
+    )
+}
+
+fn is_last(last: Option<Offer>, kept: usize, holds: bool) -> bool {
+    match last {
+        Some(offer) => offer.kept == kept && offer.holds == holds,
+        None => false,
     }
-    let taken = are_numbered(marks.taken(alloc, condition)?, case.taken);
-    let cleared = are_numbered(marks.clear(alloc)?, case.cleared);
-    Ok(taken && cleared && !marks.holds())
 }
 
 fn leaves(
@@ -141,10 +151,9 @@ fn leaves(
     index: &Index,
     condition: &Condition,
     case: &Case,
-) -> Result<bool, Fail> {
+) -> Result<bool, TextFault> {
     let last = offer_each(alloc, marks, index, condition, case.events)?;
-    let cleared = is_cleared(alloc, marks, condition, case)?;
-    Ok(cleared && last.kept == case.last.0 && last.holds == case.last.1)
+    Ok(is_last(last, case.last.0, case.last.1) && is_cleared(alloc, marks, condition, case)?)
 }
 
 fn try_condition(
@@ -152,19 +161,19 @@ fn try_condition(
     index: &Index,
     condition: &Condition,
     case: &Case,
-) -> Result<bool, Fail> {
+) -> Result<bool, TextFault> {
     let mut marks = Marks::new(alloc, condition)?;
     let leaves = leaves(alloc, &mut marks, index, condition, case);
     drop(marks);
     leaves
 }
 
-fn try_files(alloc: Global, files: &[JobFile], case: &Case) -> Result<bool, Fail> {
+fn try_files(alloc: Global, files: &[JobFile], case: &Case) -> Result<bool, TextFault> {
     let [file] = files else {
-        return Err(Fail::from("there isn't one job"));
+        return Ok(false);
     };
     let Some(condition) = &file.job().start_on else {
-        return Err(Fail::from("there is no expression"));
+        return Ok(false);
     };
     let index = Index::of(alloc, files)?;
     let tried = try_condition(alloc, &index, condition, case);
@@ -173,10 +182,10 @@ fn try_files(alloc: Global, files: &[JobFile], case: &Case) -> Result<bool, Fail
 }
 
 fn holds(alloc: Global, case: &Case) -> Result<bool, Fail> {
-    let files = files_of(alloc, &[case.stanza])?;
+    let files = files_of(alloc, from_ref(&case.stanza))?;
     let tried = try_files(alloc, files.as_slice(), case);
     drop(files);
-    tried
+    Ok(tried?)
 }
 
 fn check(alloc: Global, cases: &[Case]) -> Result<(), Fail> {

@@ -1,12 +1,12 @@
 //! What becomes of a few events.
-use std::alloc::Global;
+use std::alloc::{AllocError, Global};
 use std::test::Fail;
 use up_event::{Events, Finished, TurnKind};
 use up_model::{Event, EventId};
-use up_text::{Env, Name};
+use up_text::{Env, Name, TextFault};
 
 /// An event of this name, without variables.
-pub(crate) fn event(alloc: Global, name: &str) -> Result<Event, Fail> {
+pub(crate) fn event(alloc: Global, name: &str) -> Result<Event, TextFault> {
     Ok(Event {
         name: Name::new(alloc, name)?,
         vars: Env::new(alloc),
@@ -116,14 +116,12 @@ const CASES: &'static [Case] = &[
 ];
 
 fn push(
-    alloc: Global,
     events: &mut Events,
     ids: &mut Vec<EventId>,
-    name: &str,
+    event: Event,
     waiter: Option<u64>,
-) -> Result<bool, Fail> {
-    let id = events.push(event(alloc, name)?, waiter)?;
-    ids.push(id)?;
+) -> Result<bool, AllocError> {
+    ids.push(events.push(event, waiter)?)?;
     Ok(true)
 }
 
@@ -251,9 +249,9 @@ fn takes(
     events: &mut Events,
     ids: &mut Vec<EventId>,
     act: &Act,
-) -> Result<bool, Fail> {
+) -> Result<bool, TextFault> {
     match act {
-        Act::Pushes(name, waiter) => push(alloc, events, ids, *name, *waiter),
+        Act::Pushes(name, waiter) => Ok(push(events, ids, event(alloc, *name)?, *waiter)?),
         other => Ok(succeeds(events, ids.as_slice(), other)),
     }
 }
@@ -264,7 +262,7 @@ fn first_other(
     events: &mut Events,
     ids: &mut Vec<EventId>,
     acts: &[Act],
-) -> Result<Option<usize>, Fail> {
+) -> Result<Option<usize>, TextFault> {
     for (place, act) in acts.iter().enumerate() {
         if !takes(alloc, events, ids, act)? {
             return Ok(Some(place));
@@ -280,7 +278,7 @@ fn check_case(alloc: Global, case: &Case) -> Result<(), Fail> {
     drop(events);
     drop(ids);
     match other? {
-        Some(place) => Err(Fail::new(format_args!("{}: act {place}", case.name))),
+        Some(place) => Err(Fail::from((case.name, place))),
         None => Ok(()),
     }
 }

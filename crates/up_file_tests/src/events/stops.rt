@@ -2,8 +2,9 @@
 use crate::events::files::files_of;
 use crate::events::queue::event;
 use std::alloc::Global;
+use std::slice::from_ref;
 use std::test::Fail;
-use up_image::JobFile;
+use up_image::{ImageError, JobFile};
 use up_marks::{may_stop, stop_leaves};
 use up_model::Event;
 
@@ -26,8 +27,8 @@ fn is_heard(files: &[JobFile], event: &Event, case: &Case) -> bool {
     }
 }
 
-fn hears(alloc: Global, event: &Event, case: &Case) -> Result<bool, Fail> {
-    let files = files_of(alloc, &[case.0])?;
+fn hears(alloc: Global, event: &Event, case: &Case) -> Result<bool, ImageError> {
+    let files = files_of(alloc, from_ref(&case.0))?;
     let heard = is_heard(files.as_slice(), event, case);
     drop(files);
     Ok(heard)
@@ -37,7 +38,7 @@ fn holds(alloc: Global, case: &Case) -> Result<bool, Fail> {
     let event = event(alloc, case.1)?;
     let hears = hears(alloc, &event, case);
     drop(event);
-    hears
+    Ok(hears?)
 }
 
 fn check(alloc: Global, cases: &[Case]) -> Result<(), Fail> {

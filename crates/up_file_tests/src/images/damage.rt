@@ -1,8 +1,8 @@
 //! Images that were damaged.
-use crate::images::comes_back;
 use crate::images::folders::{
-    BOTH, MANY, OLD_STARTUP_IMAGE, STARTUP_IMAGE, again, image_of, refusal,
+    BOTH, MANY, OLD_STARTUP_IMAGE, STARTUP_IMAGE, are_bytes, comes_back, image_of, refusal,
 };
+use crate::images::holds;
 use std::alloc::{AllocError, Global};
 use std::test::Fail;
 use up_image::ImageError;
@@ -17,25 +17,35 @@ fn first_whole(alloc: Global, image: &[u8]) -> usize {
     image.len()
 }
 
-// Why an image is refused with another byte at a place.
-fn refusal_with(alloc: Global, image: &mut [u8], place: usize, byte: u8) -> Option<ImageError> {
-    if place < image.len() {
-        image[place] = byte;
-    }
-    refusal(alloc, image)
+// The bytes from a place to another.
+fn part(image: &[u8], from: usize, to: usize) -> &[u8] {
+    image.get(from..to).unwrap_or(&[])
 }
 
-// The same of a copy.
-fn with_byte(
-    alloc: Global,
-    image: &[u8],
-    place: usize,
-    byte: u8,
-) -> Result<Option<ImageError>, AllocError> {
-    let mut bytes = Vec::from_slice(alloc, image)?;
-    let refusal = refusal_with(alloc, bytes.as_mut_slice(), place, byte);
+fn join(bytes: &mut Vec<u8>, parts: &[&[u8]]) -> Result<(), AllocError> {
+    for part in parts {
+        bytes.extend_from_slice(*part)?;
+    }
+    Ok(())
+}
+
+// Why these parts, one after another, are refused.
+fn refusal_of(alloc: Global, parts: &[&[u8]]) -> Option<ImageError> {
+    let mut bytes = Vec::new(alloc);
+    let joined = join(&mut bytes, parts);
+    let refusal = refusal(alloc, bytes.as_slice());
     drop(bytes);
-    Ok(refusal)
+    if joined.is_ok() {
+        refusal
+    } else {
+        Some(ImageError::Memory)
+    }
+}
+
+/// Why an image is refused with another byte at a place.
+pub(crate) fn with_byte(alloc: Global, image: &[u8], place: usize, byte: u8) -> Option<ImageError> {
+    let rest = part(image, place.saturating_add(1), image.len());
+    refusal_of(alloc, &[part(image, 0, place), &[byte], rest])
 }
 
 // A byte at a place of an image, and why the image is refused with it, if it is.
@@ -44,21 +54,16 @@ type Change = (usize, u8, Option<ImageError>);
 // Fails with the first place at which another thing comes of a change.
 fn check_changes(alloc: Global, image: &[u8], changes: &[Change]) -> Result<(), Fail> {
     for change in changes {
-        if with_byte(alloc, image, change.0, change.1)? != change.2 {
+        if with_byte(alloc, image, change.0, change.1) != change.2 {
             return Err(Fail::from(change.0));
         }
     }
     Ok(())
 }
 
-// Why an image is refused with a byte more.
-fn longer(alloc: Global, image: &[u8]) -> Result<Option<ImageError>, AllocError> {
-    let mut bytes = Vec::from_slice(alloc, image)?;
-    let pushed = bytes.extend_from_slice(&[0]);
-    let refusal = refusal(alloc, bytes.as_slice());
-    drop(bytes);
-    pushed?;
-    Ok(refusal)
+/// Why an image is refused with a byte more.
+pub(crate) fn longer(alloc: Global, image: &[u8]) -> Option<ImageError> {
+    refusal_of(alloc, &[image, b"\0"])
 }
 
 const HEAD: &'static [Change] = &[
@@ -77,7 +82,7 @@ fn check_image(alloc: Global, image: &[u8], len: usize, changes: &[Change]) -> R
     if first_whole(alloc, image) != len {
         return Err(Fail::from("a part of it isn't refused as truncated"));
     }
-    if longer(alloc, image)? != Some(ImageError::Trailing) {
+    if longer(alloc, image) != Some(ImageError::Trailing) {
         return Err(Fail::from("a byte more isn't refused"));
     }
     check_changes(alloc, image, changes)
@@ -89,55 +94,52 @@ fn damaged_images(rt: HostRuntime) -> Result<(), Fail> {
     check_image(rt.alloc(), OLD_STARTUP_IMAGE, 112, OLD_HEAD)
 }
 
-fn exchange(bytes: &mut Vec<u8>, image: &[u8], len: usize) -> Result<(), AllocError> {
-    let half = len.min(image.len() / 2);
-    let (front, ends) = image.split_at(image.len() - 2 * half);
-    let (first, second) = ends.split_at(half);
-    bytes.extend_from_slice(front)?;
-    bytes.extend_from_slice(second)?;
-    bytes.extend_from_slice(first)
+// Whether an image is refused as none that a table has.
+fn is_bad(refusal: Option<ImageError>) -> bool {
+    refusal == Some(ImageError::BadTable)
 }
 
 // Why an image is refused with its last entries exchanged. An entry for a name of one letter has 14 bytes.
-fn exchanged(alloc: Global, image: &[u8]) -> Result<Option<ImageError>, AllocError> {
-    let mut bytes = Vec::new(alloc);
-    let made = exchange(&mut bytes, image, 14);
-    let refusal = refusal(alloc, bytes.as_slice());
-    drop(bytes);
-    made?;
-    Ok(refusal)
+fn exchanged(alloc: Global, image: &[u8]) -> Option<ImageError> {
+    let second = image.len().saturating_sub(14);
+    let first = second.saturating_sub(14);
+    let front = part(image, 0, first);
+    refusal_of(
+        alloc,
+        &[
+            front,
+            part(image, second, image.len()),
+            part(image, first, second),
+        ],
+    )
 }
 
 // After the last node there are the number of nodes of `stop on`, the number of entries and two entries: 34 bytes, before which the
 // node names its sides in four.
-fn check_sides(alloc: Global, image: &[u8]) -> Result<(), Fail> {
-    let Some(node) = image.len().checked_sub(38) else {
-        return Err(Fail::from("it is too short"));
-    };
-    if image.get(node + 3) != Some(&1) {
-        return Err(Fail::from("no node names the second one"));
-    }
-    check_changes(alloc, image, &[(node + 1, 2, Some(ImageError::BadTable))])?;
-    check_changes(alloc, image, &[(node + 3, 3, Some(ImageError::BadTable))])
+fn sides_are_refused(alloc: Global, image: &[u8]) -> bool {
+    let first = image.len().saturating_sub(37);
+    let second = image.len().saturating_sub(35);
+    image.get(second) == Some(&1)
+        && is_bad(with_byte(alloc, image, first, 2))
+        && is_bad(with_byte(alloc, image, second, 3))
 }
 
-fn check_two_events(alloc: Global, image: &[u8]) -> Result<(), Fail> {
-    if refusal(alloc, image).is_some() {
-        return Err(Fail::from("it is refused"));
-    }
-    if exchanged(alloc, image)? != Some(ImageError::BadTable) {
-        return Err(Fail::from("an index out of order isn't refused"));
-    }
-    check_sides(alloc, image)
+fn disorder_is_refused(alloc: Global, image: &[u8]) -> bool {
+    refusal(alloc, image).is_none()
+        && is_bad(exchanged(alloc, image))
+        && sides_are_refused(alloc, image)
 }
 
 // So is a node that names a later one.
 #[test]
 fn an_index_out_of_order_is_refused(rt: HostRuntime) -> Result<(), Fail> {
     let image = image_of(rt.alloc(), BOTH)?;
-    let checked = check_two_events(rt.alloc(), image.as_slice());
+    let refused = disorder_is_refused(rt.alloc(), image.as_slice());
     drop(image);
-    checked
+    if !refused {
+        return Err(Fail::from("it isn't refused"));
+    }
+    Ok(())
 }
 
 // The lengths and numbers of the first job's name, its processes and the index.
@@ -148,7 +150,7 @@ const LENGTHS: &'static [usize] = &[
 // Fails with the first of some places at which an image has this byte and isn't refused.
 fn check_places(alloc: Global, image: &[u8], places: &[usize], byte: u8) -> Result<(), Fail> {
     for place in places {
-        if with_byte(alloc, image, *place, byte)? != Some(ImageError::BadTable) {
+        if !is_bad(with_byte(alloc, image, *place, byte)) {
             return Err(Fail::from(*place));
         }
     }
@@ -162,12 +164,8 @@ fn a_length_that_wraps_is_refused(rt: HostRuntime) -> Result<(), Fail> {
 
 // Whether bytes are refused, or read as a table whose image they are.
 fn is_exact(alloc: Global, bytes: &[u8]) -> bool {
-    match again(alloc, bytes) {
-        Ok(image) => {
-            let is_its = image.as_slice() == bytes;
-            drop(image);
-            is_its
-        }
+    match comes_back(alloc, bytes) {
+        Ok(is_itself) => is_itself,
         Err(_) => true,
     }
 }
@@ -192,8 +190,10 @@ fn each_byte_altered(rt: HostRuntime) -> Result<(), Fail> {
     let mut image = Vec::from_slice(rt.alloc(), STARTUP_IMAGE)?;
     let inexact = first_inexact(rt.alloc(), image.as_mut_slice());
     drop(image);
-    assert!(rt; inexact.is_none());
-    Ok(())
+    match inexact {
+        Some(place) => Err(Fail::from(place)),
+        None => Ok(()),
+    }
 }
 
 #[test]
@@ -201,13 +201,8 @@ fn a_cut_image_of_many_jobs_is_refused(rt: HostRuntime) -> Result<(), Fail> {
     let image = image_of(rt.alloc(), MANY)?;
     let is_whole = first_whole(rt.alloc(), image.as_slice()) == image.len();
     drop(image);
-    assert!(rt; is_whole);
-    Ok(())
-}
-
-fn push_word(bytes: &mut Vec<u8>, len: u32) -> Result<(), AllocError> {
-    for _ in 0..len {
-        bytes.extend_from_slice(b"x")?;
+    if !is_whole {
+        return Err(Fail::from("a part of it isn't refused as truncated"));
     }
     Ok(())
 }
@@ -216,19 +211,14 @@ fn push_word(bytes: &mut Vec<u8>, len: u32) -> Result<(), AllocError> {
 // of the word before it.
 fn push_image(bytes: &mut Vec<u8>, image: &[u8], word: usize, len: u32) -> Result<(), AllocError> {
     let whole = u32::try_from(image.len()).unwrap_or(u32::MAX);
-    let long = whole.saturating_add(len).saturating_sub(1);
-    for (place, byte) in image.iter().enumerate() {
-        if place == 8 {
-            bytes.extend_from_slice(&long.to_be_bytes())?;
-        } else if place.saturating_add(4) == word {
-            bytes.extend_from_slice(&len.to_be_bytes())?;
-        } else if place == word {
-            push_word(bytes, len)?;
-        } else if !matches!(place, 9..=11) && !(place < word && word - place < 4) {
-            bytes.extend_from_slice(&[*byte])?;
-        }
-    }
-    Ok(())
+    let long = whole.saturating_add(len).saturating_sub(1).to_be_bytes();
+    let front = part(image, 12, word.saturating_sub(4));
+    join(
+        bytes,
+        &[part(image, 0, 8), &long, front, &len.to_be_bytes()],
+    )?;
+    bytes.resize(bytes.len().saturating_add(len as usize), b'x')?;
+    bytes.extend_from_slice(part(image, word.saturating_add(1), image.len()))
 }
 
 fn with_long_word(
@@ -249,25 +239,23 @@ fn with_long_word(
 
 // Whether an image with a word of one byte is the image itself.
 fn is_itself(alloc: Global, image: &[u8], word: usize) -> Result<bool, AllocError> {
-    let one = with_long_word(alloc, image, word, 1)?;
-    let is_itself = one.as_slice() == image;
-    drop(one);
-    Ok(is_itself)
+    Ok(are_bytes(with_long_word(alloc, image, word, 1)?, image))
 }
 
-fn reads_long_word(alloc: Global, len: u32) -> Result<bool, Fail> {
+fn reads_long_word(alloc: Global, len: u32) -> Result<bool, ImageError> {
     let image = with_long_word(alloc, STARTUP_IMAGE, 66, len)?;
     let back = comes_back(alloc, image.as_slice());
     drop(image);
-    Ok(back?)
+    back
 }
 
 // No job file with such a word is read, but one could have it.
 #[test]
-fn a_word_longer_than_files_is_read(rt: HostRuntime) -> Result<(), Fail> {
-    assert!(rt; is_itself(rt.alloc(), STARTUP_IMAGE, 66)?);
-    assert!(rt; reads_long_word(rt.alloc(), 3_000_000)?);
-    Ok(())
+fn a_word_longer_than_files_is_read(rt: HostRuntime) {
+    assert!(rt;
+        holds(is_itself(rt.alloc(), STARTUP_IMAGE, 66))
+            && holds(reads_long_word(rt.alloc(), 3_000_000))
+    );
 }
 
 // Why an image of version 1 with such a word is refused.
@@ -279,18 +267,21 @@ fn old_refusal(alloc: Global, len: u32) -> Result<Option<ImageError>, AllocError
 }
 
 // With a word of 16,777,105 bytes it has 16,777,216, and that of version 2 would have one more.
+fn old_is_refused(alloc: Global) -> Result<bool, AllocError> {
+    Ok(old_refusal(alloc, 16_777_104)?.is_none() && is_bad(old_refusal(alloc, 16_777_105)?))
+}
+
 #[test]
-fn an_old_image_without_a_new_one_is_refused(rt: HostRuntime) -> Result<(), Fail> {
-    assert!(rt; is_itself(rt.alloc(), OLD_STARTUP_IMAGE, 65)?);
-    assert!(rt; old_refusal(rt.alloc(), 16_777_104)? == None);
-    assert!(rt; old_refusal(rt.alloc(), 16_777_105)? == Some(ImageError::BadTable));
-    Ok(())
+fn an_old_image_without_a_new_one_is_refused(rt: HostRuntime) {
+    assert!(rt;
+        holds(is_itself(rt.alloc(), OLD_STARTUP_IMAGE, 65)) && holds(old_is_refused(rt.alloc()))
+    );
 }
 
 // Fails with the first of these bytes at a place of an image with which it isn't refused.
 fn check_bytes(alloc: Global, image: &[u8], place: usize, bytes: &[u8]) -> Result<(), Fail> {
     for byte in bytes {
-        if with_byte(alloc, image, place, *byte)? != Some(ImageError::BadTable) {
+        if !is_bad(with_byte(alloc, image, place, *byte)) {
             return Err(Fail::from(*byte));
         }
     }
@@ -306,7 +297,7 @@ fn texts_that_no_file_gives_are_refused(rt: HostRuntime) -> Result<(), Fail> {
 }
 
 /// A job of the shell.
-const SHELL: &'static [(&'static str, &'static [u8])] = &[("a.conf", b"exec /a 'b' c\n")];
+const SHELL: &'static str = "%file a.conf\nexec /a 'b' c\n";
 
 // At 63 stands the `c`.
 const TAKEN: &'static [Change] = &[(63, b'c', None), (63, b'd', None), (63, b'\n', None)];

@@ -1,11 +1,9 @@
-//! The job files and overrides of the folder `examples/distribution`.
+//! The job files and overrides of the folder `examples/distribution`, each below a line `%file PATH`.
 //!
 //! Written by oracle/distribution.py.
 
-pub(crate) const DISTRIBUTION: &'static [(&'static str, &'static [u8])] = &[
-    (
-        "backup.conf",
-        b"\
+pub(crate) const DISTRIBUTION: &'static str = "\
+%file backup.conf\n\
 # Nightly copy of the home folders; whoever knows the time gives the event.\n\
 \n\
 description \"copies the home folders to the backup disk\"\n\
@@ -25,20 +23,12 @@ script\n\
 \x20   cp -a /home \"$TARGET/$(date +%F)\"\n\
 \x20   ls -1d \"$TARGET\"/* | head -n -\"$KEEP\" | xargs -r -d '\\n' rm -rf --\n\
 end script\n\
-",
-    ),
-    (
-        "backup.override",
-        b"\
+%file backup.override\n\
 # A slow disk: more time, and out of everybody's way.\n\
 kill timeout 600\n\
 nice 10\n\
 env KEEP=30\n\
-",
-    ),
-    (
-        "bluetooth.conf",
-        b"\
+%file bluetooth.conf\n\
 # bluetooth - the daemon of the short-range radio\n\
 \n\
 description\t\"short-range radio\"\n\
@@ -67,19 +57,11 @@ post-start script\n\
 \t\tuart-attach $line || :\n\
 \tdone < \"$UART\"\n\
 end script\n\
-",
-    ),
-    (
-        "bluetooth.override",
-        b"\
+%file bluetooth.override\n\
 # On this machine only by hand.\n\
 manual\n\
-",
-    ),
-    (
-        "clock-sync.conf",
-        b"\
-description \"sets the clock \xe2\x80\x94 by those of other machines\"\n\
+%file clock-sync.conf\n\
+description \"sets the clock — by those of other machines\"\n\
 \n\
 # Any card but the loop will do.\n\
 start on ((net-device-up IFACE!=lo      # (the loop is always there)\n\
@@ -103,11 +85,7 @@ script\n\
 \x20   done\n\
 \x20   exec /usr/sbin/clockd --foreground --drift \"$DRIFT\" \"$@\"\n\
 end script\n\
-",
-    ),
-    (
-        "console-setup.conf",
-        b"\
+%file console-setup.conf\n\
 # Font and keys, before the login appears on a terminal.\n\
 \n\
 start on starting getty TTY=tty[1-6]\n\
@@ -117,21 +95,13 @@ instance $TTY\n\
 console output\n\
 \n\
 exec /sbin/console-font --keys /etc/keymap.gz --tty $TTY\n\
-",
-    ),
-    (
-        "control-alt-delete.conf",
-        b"\
+%file control-alt-delete.conf\n\
 # Three keys at once: down in good order, and up again.\n\
 \n\
 start on control-alt-delete\n\
 \n\
 task\n\
-exec /sbin/shutdown -r now \"Control, Alt and Delete were pressed\"",
-    ),
-    (
-        "cron.conf",
-        b"\
+exec /sbin/shutdown -r now \"Control, Alt and Delete were pressed\"%file cron.conf\n\
 description\t\"runs commands when their time has come\"\n\
 version\t\t'4.1'\n\
 \n\
@@ -145,11 +115,7 @@ emits cron-ready \\\n\
 reload signal HUP\n\
 \n\
 exec /usr/sbin/crond -f -L 15\n\
-",
-    ),
-    (
-        "database.conf",
-        b"\
+%file database.conf\n\
 description \"tables for all services\"\n\
 \n\
 start on filesystem and started syslog\n\
@@ -164,11 +130,7 @@ umask 0077\n\
 limit nofile 65536 65536\n\
 \n\
 exec /usr/sbin/tabled --data $DATA\n\
-",
-    ),
-    (
-        "display.conf",
-        b"\
+%file display.conf\n\
 # The graphical login, in runlevel 5 alone.\n\
 \n\
 start on stopped rc RUNLEVEL=5\n\
@@ -183,11 +145,7 @@ env LANG\n\
 exec /usr/sbin/login-screen --foreground \\\n\
 \t--background \"$BACKGROUND\"\n\
 post-stop exec /usr/bin/console-mode --text\n\
-",
-    ),
-    (
-        "getty.conf",
-        b"\
+%file getty.conf\n\
 # One login on one terminal:\n\
 #\n\
 #     initctl start getty TTY=tty3\n\
@@ -201,11 +159,7 @@ instance $TTY\n\
 export TTY\n\
 respawn\n\
 exec /sbin/getty -8 38400 $TTY\n\
-",
-    ),
-    (
-        "hostname.conf",
-        b"\
+%file hostname.conf\n\
 description \"names the machine\"\n\
 \n\
 start on startup\n\
@@ -216,11 +170,7 @@ script\n\
 \x20   test -s /etc/hostname && read -r name < /etc/hostname\n\
 \x20   echo \"$name\" > /proc/sys/kernel/hostname\n\
 end script\n\
-",
-    ),
-    (
-        "hwclock-save.conf",
-        b"\
+%file hwclock-save.conf\n\
 description\t\"writes the time to the clock that runs on a battery\"\n\
 \n\
 start on runlevel [06]\n\
@@ -234,11 +184,7 @@ pre-start script\n\
 end script\n\
 \n\
 exec /sbin/hwclock --systohc\n\
-",
-    ),
-    (
-        "mail-relay.conf",
-        b"\
+%file mail-relay.conf\n\
 # Takes mail from the machines of this house and hands it on.\n\
 \n\
 description \"mail relay\"\n\
@@ -259,11 +205,7 @@ pre-start script\n\
 end script\n\
 \n\
 exec /usr/sbin/relayd --foreground --spool \"$SPOOL\"\n\
-",
-    ),
-    (
-        "message-bus.conf",
-        b"\
+%file message-bus.conf\n\
 # The bus over which the services of the machine talk.\n\
 \n\
 description\t\"message bus\"\n\
@@ -281,11 +223,7 @@ end script\n\
 exec /usr/bin/busd --machine --detach\n\
 \n\
 post-stop exec rm -f /run/bus/socket\n\
-",
-    ),
-    (
-        "metrics.conf",
-        b"\
+%file metrics.conf\n\
 description \"counts what the machine does, and keeps the counts\"\n\
 author \"Tadrovec examples\"\n\
 \n\
@@ -301,11 +239,7 @@ env RATE=10\n\
 export RATE\n\
 \n\
 exec /usr/bin/metricsd --every \"$RATE\"\n\
-",
-    ),
-    (
-        "mount-all.conf",
-        b"\
+%file mount-all.conf\n\
 # Mounts what the table of file systems names, and tells how far it is.\n\
 \n\
 description \"mounts file systems\"\n\
@@ -330,11 +264,7 @@ end script\n\
 post-stop script\n\
 \x20   rm -f /run/nologin\n\
 end script\n\
-",
-    ),
-    (
-        "net/bridge.conf",
-        b"\
+%file net/bridge.conf\n\
 # A bridge, or cards that act as one, for each family of addresses.\n\
 \n\
 description \"bridges\"\n\
@@ -347,11 +277,7 @@ export INTERFACE FAMILY\n\
 \n\
 pre-start exec /sbin/bridge-up \"$INTERFACE\" \"${FAMILY:-inet}\"\n\
 post-stop exec /sbin/bridge-down \"$INTERFACE\" \"${FAMILY:-inet}\"\n\
-",
-    ),
-    (
-        "net/dhcp-client.conf",
-        b"\
+%file net/dhcp-client.conf\n\
 description \"asks for an address\"\n\
 \n\
 start on net-device-up IFACE!=lo METHOD=dhcp\n\
@@ -369,11 +295,7 @@ exec /sbin/addressd --foreground \\\n\
 \x20    --leases ${IFACE}.leases \\\n\
 \x20    --hostname \"$(cat /proc/sys/kernel/hostname)\" \\\n\
 \x20    $IFACE   # the card comes last\n\
-",
-    ),
-    (
-        "net/firewall.conf",
-        b"\
+%file net/firewall.conf\n\
 # Up before the first card. There is no process that stays.\n\
 \n\
 description \"packet filter\"\n\
@@ -384,11 +306,7 @@ stop on runlevel [016]\n\
 \n\
 pre-start exec /sbin/packet-filter --load /etc/filter.rules\n\
 post-stop exec /sbin/packet-filter --flush\n\
-",
-    ),
-    (
-        "net/interfaces.conf",
-        b"\
+%file net/interfaces.conf\n\
 # Every card that the file of cards names.\n\
 \n\
 description \"network cards\"\n\
@@ -412,11 +330,7 @@ pre-stop script\n\
 end script\n\
 \n\
 post-stop exec /sbin/cards down --all --except=lo\n\
-",
-    ),
-    (
-        "net/resolver.conf",
-        b"\
+%file net/resolver.conf\n\
 description \"answers for names\"\n\
 \n\
 start on net-device-up IFACE=lo\n\
@@ -428,11 +342,7 @@ apparmor load /etc/apparmor.d/usr.sbin.resolverd\n\
 \n\
 respawn\n\
 exec /usr/sbin/resolverd --foreground --zone \"${ZONE:-all}\"\n\
-",
-    ),
-    (
-        "print-spool.conf",
-        b"\
+%file print-spool.conf\n\
 # Queues of the printers.\n\
 \n\
 description \"printers\"\n\
@@ -456,18 +366,10 @@ end script\n\
 \x20 expect daemon\n\
 \n\
 exec /usr/sbin/spoold --config /run/spoold.conf\n\
-",
-    ),
-    (
-        "quota.override",
-        b"\
+%file quota.override\n\
 # Its job file isn't installed, so this is neither read nor reported.\n\
 manual of nothing\n\
-",
-    ),
-    (
-        "rc.conf",
-        b"\
+%file rc.conf\n\
 # The scripts of a runlevel.\n\
 \n\
 description \"scripts of a runlevel\"\n\
@@ -483,11 +385,7 @@ env VERBOSE\n\
 env VERBOSE=no\n\
 \n\
 exec /sbin/level-scripts --from \"$PREVLEVEL\" --to \"$RUNLEVEL\"\n\
-",
-    ),
-    (
-        "rcS.conf",
-        b"\
+%file rcS.conf\n\
 # First of all scripts, and those for one user alone.\n\
 \n\
 start on startup\n\
@@ -513,11 +411,7 @@ post-stop script\n\
 \t[ ! -r /etc/inittab ] || level=$(sed -n 's/^id:\\([0-6]\\):.*/\\1/p' /etc/inittab)\n\
 \texec telinit \"${level:-2}\"\n\
 end script\n\
-",
-    ),
-    (
-        "remote-login.conf",
-        b"\
+%file remote-login.conf\n\
 # Logins from elsewhere.\n\
 \n\
 description \"remote logins\"\n\
@@ -536,11 +430,7 @@ pre-start script\n\
 end script\n\
 \n\
 exec /usr/sbin/remoted --foreground\n\
-",
-    ),
-    (
-        "rescue-shell.conf",
-        b"\
+%file rescue-shell.conf\n\
 # A shell for whoever sits at the machine.\n\
 \n\
 start on rescue\n\
@@ -549,11 +439,7 @@ stop on runlevel [!S]\n\
 task\n\
 console owner\n\
 exec /bin/sulogin\n\
-",
-    ),
-    (
-        "splash.conf",
-        b"\
+%file splash.conf\n\
 # The picture while the machine comes up or goes down.\n\
 \n\
 start on (starting mount-all or (runlevel [06] and stopped display))\n\
@@ -567,11 +453,7 @@ kill signal USR2\n\
 exec /usr/bin/splash --message \"Please wait,\n\
 \x20    the machine isn't ready yet\" --quiet\n\
 pre-stop exec /usr/bin/splash --quit --keep-picture\n\
-",
-    ),
-    (
-        "start-gettys.conf",
-        b"\
+%file start-gettys.conf\n\
 # Logins on as many terminals as there should be.\n\
 \n\
 start on stopped rc RUNLEVEL=[2345]\n\
@@ -587,11 +469,7 @@ script\n\
 \t\tinitctl start --no-wait getty TTY=\"${tty#/dev/}\"\n\
 \tdone\n\
 end script\n\
-",
-    ),
-    (
-        "syslog.conf",
-        b"\
+%file syslog.conf\n\
 # The log of the machine.\n\
 \n\
 description \"log\"\n\
@@ -618,11 +496,7 @@ script\n\
 end script\n\
 \n\
 post-start exec initctl emit --no-wait log-rotated\n\
-",
-    ),
-    (
-        "wait-for.conf",
-        b"\
+%file wait-for.conf\n\
 # Holds a job back until another one has come up or is gone.\n\
 \n\
 description \"waits for a job\"\n\
@@ -642,11 +516,7 @@ script\n\
 \x20   sleep \"$SECONDS\"\n\
 \x20   exit 1\n\
 end script\n\
-",
-    ),
-    (
-        "welcome.conf",
-        b"\
+%file welcome.conf\n\
 # What stands above the login.\n\
 \n\
 description \"the \\\"welcome\\\" above the login\"\n\
@@ -665,6 +535,4 @@ It's \\s \\r on \\l   # a comment for nobody\n\
 EOF\n\
 \x20   ln -sf /run/welcome /etc/welcome\n\
 end script   # of the only process\n\
-",
-    ),
-];
+";

@@ -1,31 +1,39 @@
 //! Job files that several share, and the leaves of their expressions.
-use crate::images::folders::{MANY, image_of, table_of};
-use std::alloc::{AllocError, Global};
+use crate::images::folders::{MANY, are_bytes, table_of, written};
+use crate::images::holds;
+use std::alloc::Global;
 use std::test::Fail;
 use up_conf::JobDef;
 use up_image::{
     ImageError, JobFile, MAX_JOBS, Place, Table, add_stops, places_of_files, sort_places,
 };
 
-fn has_image(alloc: Global, table: Table, image: &[u8]) -> Result<bool, ImageError> {
-    let its = table.to_bytes(alloc);
-    drop(table);
-    match its {
-        Ok(its) => {
-            let same = its.as_slice() == image;
-            drop(its);
-            Ok(same)
-        }
-        Err(error) => Err(error),
-    }
+fn copy_has(alloc: Global, table: &Table, image: &[u8]) -> Result<bool, ImageError> {
+    let copy = table.copy(alloc)?;
+    Ok(are_bytes(written(alloc, copy)?, image))
 }
 
 // Whether a copy of a table has the table's image.
-fn is_copied(alloc: Global, table: &Table, image: &[u8]) -> Result<bool, ImageError> {
-    match table.copy(alloc) {
-        Ok(copy) => has_image(alloc, copy, image),
-        Err(refused) => Err(ImageError::from(refused)),
+fn is_copied(alloc: Global, table: &Table) -> Result<bool, ImageError> {
+    let image = table.to_bytes(alloc)?;
+    let same = copy_has(alloc, table, image.as_slice());
+    drop(image);
+    same
+}
+
+fn copies(alloc: Global, table: Table) -> Result<bool, ImageError> {
+    let copied = is_copied(alloc, &table);
+    drop(table);
+    copied
+}
+
+#[test]
+fn a_copy_has_the_same_image(rt: HostRuntime) -> Result<(), Fail> {
+    let table = table_of(rt.alloc(), MANY)?;
+    if !holds(copies(rt.alloc(), table)) {
+        return Err(Fail::from("it has another"));
     }
+    Ok(())
 }
 
 fn are_places(places: &[Place], expected: &[(&str, u16)]) -> bool {
@@ -46,25 +54,16 @@ const ORDERED: &'static [(&'static str, u16)] = &[("a", 1), ("b", 0), ("c", 2)];
 const WRITTEN: &'static [(&'static str, u16)] = &[("b", 0), ("a", 1), ("c", 2)];
 
 // Whether these are the leaves that a job adds.
-fn adds(
-    places: &mut Vec<Place>,
-    job: &JobDef,
-    written: &[(&str, u16)],
-) -> Result<bool, AllocError> {
-    add_stops(places, 1, job)?;
-    Ok(are_places(places.as_slice(), written))
-}
-
-fn adds_its_own(alloc: Global, job: JobDef) -> Result<bool, AllocError> {
+fn adds(alloc: Global, job: &JobDef, written: &[(&str, u16)]) -> bool {
     let mut places = Vec::new(alloc);
-    let added = adds(&mut places, &job, WRITTEN);
+    let added = add_stops(&mut places, 1, job).is_ok();
+    let are_written = are_places(places.as_slice(), written);
     drop(places);
-    drop(job);
-    added
+    added && are_written
 }
 
-fn has_stops(alloc: Global, file: &JobFile) -> Result<bool, AllocError> {
-    Ok(adds_its_own(alloc, file.job().copy(alloc)?)? && are_places(file.stops(), ORDERED))
+fn has_stops(alloc: Global, file: &JobFile) -> bool {
+    are_places(file.stops(), ORDERED) && adds(alloc, file.job(), WRITTEN)
 }
 
 // Whether the events of places are these, one after another.
@@ -88,16 +87,16 @@ const SORTED: &'static [&'static str] = &[
     "a", "a", "and", "b", "b", "b", "c", "c", "d", "runlevel", "stopped",
 ];
 
-fn are_sorted(places: &mut Vec<Place>) -> Result<bool, AllocError> {
-    let written = are_events(places.as_slice(), EVENTS);
-    sort_places(places)?;
-    Ok(written && are_events(places.as_slice(), SORTED))
+fn are_sorted(places: &mut Vec<Place>) -> bool {
+    are_events(places.as_slice(), EVENTS)
+        && sort_places(places).is_ok()
+        && are_events(places.as_slice(), SORTED)
 }
 
 // Whether the leaves of jobs are in the order in which they are written, and are then sorted by their events.
-fn has_places(alloc: Global, files: &[JobFile]) -> Result<bool, AllocError> {
+fn has_places(alloc: Global, files: &[JobFile]) -> bool {
     if files.len() > MAX_JOBS {
-        return Ok(false);
+        return false;
     }
     match places_of_files(alloc, files) {
         Ok(mut places) => {
@@ -105,48 +104,33 @@ fn has_places(alloc: Global, files: &[JobFile]) -> Result<bool, AllocError> {
             drop(places);
             sorted
         }
-        Err(refused) => Err(refused),
+        Err(_) => false,
     }
 }
 
-fn are_files(alloc: Global, files: &[JobFile]) -> Result<bool, AllocError> {
+fn are_files(alloc: Global, files: &[JobFile]) -> bool {
     match files.last() {
-        Some(file) => Ok(has_stops(alloc, file)? && has_places(alloc, files)?),
-        None => Ok(false),
+        Some(file) => has_stops(alloc, file) && has_places(alloc, files),
+        None => false,
     }
 }
 
-fn gives_files(alloc: Global, table: Table) -> Result<bool, AllocError> {
+fn gives_files(alloc: Global, table: Table) -> bool {
     match table.into_files(alloc) {
         Ok(files) => {
             let are_files = are_files(alloc, files.as_slice());
             drop(files);
             are_files
         }
-        Err(refused) => Err(refused),
+        Err(_) => false,
     }
 }
 
 #[test]
-fn a_copy_has_the_same_image(rt: HostRuntime) -> Result<(), Fail> {
-    let image = image_of(rt.alloc(), MANY)?;
-    let copied = match table_of(rt.alloc(), MANY) {
-        Ok(table) => copies(rt.alloc(), table, image.as_slice()),
-        Err(fail) => Err(fail),
-    };
-    drop(image);
-    assert!(rt; copied?);
-    Ok(())
-}
-
-fn copies(alloc: Global, table: Table, image: &[u8]) -> Result<bool, Fail> {
-    let copied = is_copied(alloc, &table, image);
-    drop(table);
-    Ok(copied?)
-}
-
-#[test]
 fn files_have_their_leaves(rt: HostRuntime) -> Result<(), Fail> {
-    assert!(rt; gives_files(rt.alloc(), table_of(rt.alloc(), MANY)?)?);
+    let table = table_of(rt.alloc(), MANY)?;
+    if !gives_files(rt.alloc(), table) {
+        return Err(Fail::from("it has others"));
+    }
     Ok(())
 }

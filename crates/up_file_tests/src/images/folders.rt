@@ -1,15 +1,14 @@
-//! Folders, and their images as the format's byte listing gives them.
-use crate::conf::folder_of;
-use std::alloc::Global;
-use std::test::Fail;
+//! Folders as texts, and their images as the format's byte listing gives them.
+use crate::conf::add;
+use std::alloc::{AllocError, Global};
 use up_conf::Folder;
-use up_image::{ImageError, Table, compile};
+use up_image::{CompileError, ImageError, Table, compile};
 
 /// A job that `startup` starts.
-pub(crate) const STARTUP: &'static [(&'static str, &'static [u8])] = &[(
-    "a.conf",
-    b"start on startup\nexec /bin/true x\n",
-)];
+pub(crate) const STARTUP: &'static str = r#"%file a.conf
+start on startup
+exec /bin/true x
+"#;
 
 /// Its image.
 pub(crate) const STARTUP_IMAGE: &'static [u8] =
@@ -28,48 +27,97 @@ pub(crate) const OLD_EMPTY_IMAGE: &'static [u8] =
     b"\x55\x50\x54\x42\x00\x01\x00\x00\x00\x00\x00\x10\x00\x00\x00\x00";
 
 /// A job that waits for two events.
-pub(crate) const BOTH: &'static [(&'static str, &'static [u8])] = &[(
-    "a.conf",
-    b"start on A and B\nexec /bin/d\n",
-)];
+pub(crate) const BOTH: &'static str = r#"%file a.conf
+start on A and B
+exec /bin/d
+"#;
 
 /// Jobs with every stanza that an image keeps, an override, and values that want quotes.
-pub(crate) const MANY: &'static [(&'static str, &'static [u8])] = &[
-    (
-        "net/b.conf",
-        b"task\nrespawn\nrespawn limit 7 9\nconsole none\ninstance $TTY\nchdir \"/a b\"\nkill signal HUP\nreload signal USR1\nkill timeout 8\nnormal exit 0 7 TERM\nenv A=1\nenv B\nenv C=\"x 'y' \\\"z\\\"\"\nenv D=\nexport A B\nexec /bin/true a b\npre-start script\necho hi # \"all\"\nend script\npost-start exec echo $A | cat\npre-stop script\nend script\npost-stop exec /bin/x\nstart on (a X=1 or b Y!=\"2 3\") and (c \"p q\" Z=4 or d) and \"and\"\nstop on (b or (a and c))\n",
-    ),
-    (
-        "a.conf",
-        b"env K=v\nstart on runlevel [23] or stopped net/b RESULT=failed\n",
-    ),
-    ("a.override", b"env L=\\\\\nstop on b PLACE=\"#1\"\n"),
-];
+pub(crate) const MANY: &'static str = r##"%file net/b.conf
+task
+respawn
+respawn limit 7 9
+console none
+instance $TTY
+chdir "/a b"
+kill signal HUP
+reload signal USR1
+kill timeout 8
+normal exit 0 7 TERM
+env A=1
+env B
+env C="x 'y' \"z\""
+env D=
+export A B
+exec /bin/true a b
+pre-start script
+echo hi # "all"
+end script
+post-start exec echo $A | cat
+pre-stop script
+end script
+post-stop exec /bin/x
+start on (a X=1 or b Y!="2 3") and (c "p q" Z=4 or d) and "and"
+stop on (b or (a and c))
+%file a.conf
+env K=v
+start on runlevel [23] or stopped net/b RESULT=failed
+%file a.override
+env L=\\
+stop on b PLACE="#1"
+"##;
 
 /// The table of a folder.
-pub(crate) fn compiled(alloc: Global, folder: &Folder) -> Result<Table, Fail> {
-    let (table, report) = compile(alloc, folder)?;
-    drop(report);
-    Ok(table)
-}
-
-// Large values are dropped by a call, here and below: the prover would go through each field of what a scope drops.
-pub(crate) fn table_of(alloc: Global, files: &[(&str, &[u8])]) -> Result<Table, Fail> {
-    match folder_of(alloc, files) {
-        Ok(folder) => {
-            let table = compiled(alloc, &folder);
-            drop(folder);
-            table
+pub(crate) fn compiled(alloc: Global, folder: &Folder) -> Result<Table, ImageError> {
+    match compile(alloc, folder) {
+        Ok((table, report)) => {
+            drop(report);
+            Ok(table)
         }
-        Err(refused) => Err(Fail::from(refused)),
+        Err(CompileError::Memory) => Err(ImageError::Memory),
+        Err(CompileError::ImageTooLarge) => Err(ImageError::ImageTooLarge),
+        Err(_) => Err(ImageError::BadTable),
     }
 }
 
-pub(crate) fn image_of(alloc: Global, files: &[(&str, &[u8])]) -> Result<Vec<u8>, Fail> {
-    let table = table_of(alloc, files)?;
+fn add_files(alloc: Global, folder: &mut Folder, text: &str) -> Result<(), AllocError> {
+    for file in text.split("%file ") {
+        if let Some((path, stanzas)) = file.split_once('\n') {
+            add(alloc, folder, path, stanzas.as_bytes())?;
+        }
+    }
+    Ok(())
+}
+
+/// The folder of a text, in which a line `%file PATH` stands before each file. Large values are dropped by a call, here and below: the
+/// prover would go through each field of what a scope drops.
+pub(crate) fn folder_of(alloc: Global, text: &str) -> Result<Folder, AllocError> {
+    let mut folder = Folder::new(alloc);
+    match add_files(alloc, &mut folder, text) {
+        Ok(()) => Ok(folder),
+        Err(refused) => {
+            drop(folder);
+            Err(refused)
+        }
+    }
+}
+
+pub(crate) fn table_of(alloc: Global, text: &str) -> Result<Table, ImageError> {
+    let folder = folder_of(alloc, text)?;
+    let table = compiled(alloc, &folder);
+    drop(folder);
+    table
+}
+
+/// The image of a table.
+pub(crate) fn written(alloc: Global, table: Table) -> Result<Vec<u8>, ImageError> {
     let image = table.to_bytes(alloc);
     drop(table);
-    Ok(image?)
+    image
+}
+
+pub(crate) fn image_of(alloc: Global, text: &str) -> Result<Vec<u8>, ImageError> {
+    written(alloc, table_of(alloc, text)?)
 }
 
 /// Why bytes are refused, if they are.
@@ -83,10 +131,24 @@ pub(crate) fn refusal(alloc: Global, bytes: &[u8]) -> Option<ImageError> {
     }
 }
 
-/// The image of the table that is read from an image.
-pub(crate) fn again(alloc: Global, bytes: &[u8]) -> Result<Vec<u8>, ImageError> {
-    let table = Table::from_bytes(alloc, bytes)?;
-    let image = table.to_bytes(alloc);
-    drop(table);
-    image
+pub(crate) fn are_bytes(bytes: Vec<u8>, wanted: &[u8]) -> bool {
+    let are_wanted = bytes.as_slice() == wanted;
+    drop(bytes);
+    are_wanted
+}
+
+/// Whether the files of a folder have this image.
+pub(crate) fn has_image(alloc: Global, text: &str, image: &[u8]) -> Result<bool, ImageError> {
+    Ok(are_bytes(image_of(alloc, text)?, image))
+}
+
+/// Whether the table that is read from an image has this image.
+pub(crate) fn becomes(alloc: Global, image: &[u8], wanted: &[u8]) -> Result<bool, ImageError> {
+    let table = Table::from_bytes(alloc, image)?;
+    Ok(are_bytes(written(alloc, table)?, wanted))
+}
+
+/// Whether the table that is read from an image has the same image.
+pub(crate) fn comes_back(alloc: Global, image: &[u8]) -> Result<bool, ImageError> {
+    becomes(alloc, image, image)
 }

@@ -1,37 +1,23 @@
 //! Images near the limit of their size.
 use crate::conf::add_numbered;
-use crate::images::comes_back;
+use crate::images::folders::{comes_back, compiled, written};
+use crate::images::holds;
 use std::alloc::{AllocError, Global};
-use std::test::Fail;
 use up_conf::Folder;
-use up_image::{CompileError, ImageError, compile};
+use up_image::{ImageError, Table};
 
-// In a static, since an array of so many in a function takes the prover long.
-static WORD: [u8; 10_000] = [b'x'; 10_000];
-
-fn push_command(text: &mut Vec<u8>) -> Result<(), AllocError> {
-    text.extend_from_slice(b"exec ")?;
-    for _ in 0..100u32 {
-        text.extend_from_slice(&WORD)?;
-    }
+// Adds a word of 1,000,000 bytes.
+fn push_word(text: &mut Vec<u8>) -> Result<(), AllocError> {
+    text.resize(1_000_005, b'x')?;
     text.extend_from_slice(b"\n")
 }
 
-// A command of one word of 1,000,000 bytes.
-fn command(alloc: Global) -> Result<Vec<u8>, AllocError> {
-    let mut text = Vec::new(alloc);
-    match push_command(&mut text) {
-        Ok(()) => Ok(text),
-        Err(refused) => {
-            drop(text);
-            Err(refused)
-        }
-    }
-}
-
 fn add_large_job(alloc: Global, folder: &mut Folder, number: u32) -> Result<(), AllocError> {
-    let text = command(alloc)?;
-    let added = add_numbered(alloc, folder, number, ".conf", text.as_slice());
+    let mut text = Vec::from_slice(alloc, b"exec ")?;
+    let added = match push_word(&mut text) {
+        Ok(()) => add_numbered(alloc, folder, number, ".conf", text.as_slice()),
+        refused => refused,
+    };
     drop(text);
     added
 }
@@ -43,48 +29,43 @@ fn add_large_jobs(alloc: Global, folder: &mut Folder, jobs: u32) -> Result<(), A
     Ok(())
 }
 
-// Whether a folder of these jobs is compiled, and its table has a large image that is read; if not, why it isn't compiled.
-fn comes_of(alloc: Global, folder: &Folder) -> Result<Result<bool, ImageError>, CompileError> {
-    let (table, report) = compile(alloc, folder)?;
-    drop(report);
-    let image = table.to_bytes(alloc);
-    drop(table);
-    Ok(is_large(alloc, image))
+// The table of a folder with so many jobs, each with a command of 1,000,000 bytes.
+fn large_table(alloc: Global, jobs: u32) -> Result<Table, ImageError> {
+    let mut folder = Folder::new(alloc);
+    let table = match add_large_jobs(alloc, &mut folder, jobs) {
+        Ok(()) => compiled(alloc, &folder),
+        Err(refused) => Err(ImageError::from(refused)),
+    };
+    drop(folder);
+    table
 }
 
-fn is_large(alloc: Global, image: Result<Vec<u8>, ImageError>) -> Result<bool, ImageError> {
-    match image {
-        Ok(image) => {
-            let large = image.len() > 16_000_000;
-            let back = comes_back(alloc, image.as_slice());
-            drop(image);
-            Ok(large && back?)
+// Whether 16 of them have a large image, which is read.
+fn is_read(alloc: Global) -> Result<bool, ImageError> {
+    let image = written(alloc, large_table(alloc, 16)?)?;
+    let large = image.len() > 16_000_000;
+    let back = comes_back(alloc, image.as_slice());
+    drop(image);
+    Ok(large && back?)
+}
+
+// Whether 17 of them have no table.
+fn is_too_large(alloc: Global) -> Result<bool, ImageError> {
+    match large_table(alloc, 17) {
+        Ok(table) => {
+            drop(table);
+            Ok(false)
         }
+        Err(ImageError::ImageTooLarge) => Ok(true),
         Err(error) => Err(error),
     }
 }
 
-// What comes of a folder with so many jobs, each with a command of 1,000,000 bytes.
-fn comes_of_large(alloc: Global, jobs: u32) -> Result<Result<bool, ImageError>, CompileError> {
-    let mut folder = Folder::new(alloc);
-    let came = match add_large_jobs(alloc, &mut folder, jobs) {
-        Ok(()) => comes_of(alloc, &folder),
-        Err(_) => Err(CompileError::Memory),
-    };
-    drop(folder);
-    came
-}
-
 #[test]
-fn images_near_the_limit(rt: HostRuntime) -> Result<(), Fail> {
+fn images_near_the_limit(rt: HostRuntime) {
+    assert!(rt; holds(is_read(rt.alloc())), "a large image isn't read");
     assert!(rt;
-        comes_of_large(rt.alloc(), 16)??,
-        "a large image isn't read"
-    );
-    let larger = comes_of_large(rt.alloc(), 17);
-    assert!(rt;
-        larger == Err(CompileError::ImageTooLarge),
+        holds(is_too_large(rt.alloc())),
         "a table is too large for an image"
     );
-    Ok(())
 }

@@ -1,8 +1,9 @@
 //! A random walk over damaged images.
 use crate::images::distribution::DISTRIBUTION;
-use crate::images::folders::{again, image_of};
+use crate::images::folders::{comes_back, image_of};
+use crate::images::holds;
 use std::alloc::Global;
-use std::test::Fail;
+use up_image::ImageError;
 
 /// How many images the walk passes.
 const STEPS: u32 = 10_000;
@@ -12,42 +13,21 @@ fn next(number: u32) -> u32 {
     number.wrapping_mul(1_664_525).wrapping_add(1_013_904_223)
 }
 
-/// What became of an image.
-#[derive(Clone, Copy, PartialEq, Eq)]
-enum Outcome {
-    Refused,
-    Read,
-    ReadAsAnother,
-}
-
-fn reading_of(alloc: Global, image: &[u8]) -> Outcome {
-    match again(alloc, image) {
-        Ok(bytes) => {
-            let is_read = bytes.as_slice() == image;
-            drop(bytes);
-            if is_read {
-                Outcome::Read
-            } else {
-                Outcome::ReadAsAnother
-            }
-        }
-        Err(_) => Outcome::Refused,
-    }
-}
-
-// Alters a byte. It stays so if the image is read then, and is taken back if it is refused.
-fn damage(alloc: Global, image: &mut [u8], place: u32, byte: u8) -> Outcome {
+// Alters a byte. It stays so if the image is read then, and is taken back if it is refused. Whether it is read, and as itself.
+fn damage(alloc: Global, image: &mut [u8], place: u32, byte: u8) -> Option<bool> {
     if image.is_empty() {
-        return Outcome::Refused;
+        return None;
     }
     let place = place as usize % image.len();
     let kept = image[place];
     image[place] = byte;
-    let found = reading_of(alloc, image);
-    if found == Outcome::Refused {
-        image[place] = kept;
+    match comes_back(alloc, image) {
+        Ok(is_itself) => Some(is_itself),
+        Err(_) => {
+            image[place] = kept;
+            None
+        }
     }
-    found
 }
 
 // Whether some images of a walk were read and others refused, and none was read as another.
@@ -59,19 +39,22 @@ fn is_mixed(alloc: Global, image: &mut [u8]) -> bool {
         let place = next(number);
         number = next(place);
         match damage(alloc, image, place >> 8, (number >> 24) as u8) {
-            Outcome::Refused => was_refused = true,
-            Outcome::Read => was_read = true,
-            Outcome::ReadAsAnother => return false,
+            None => was_refused = true,
+            Some(true) => was_read = true,
+            Some(false) => return false,
         }
     }
     was_read && was_refused
 }
 
-#[test]
-fn a_walk_over_damaged_images(rt: HostRuntime) -> Result<(), Fail> {
-    let mut image = image_of(rt.alloc(), DISTRIBUTION)?;
-    let mixed = is_mixed(rt.alloc(), image.as_mut_slice());
+fn walks(alloc: Global, files: &str) -> Result<bool, ImageError> {
+    let mut image = image_of(alloc, files)?;
+    let mixed = is_mixed(alloc, image.as_mut_slice());
     drop(image);
-    assert!(rt; mixed);
-    Ok(())
+    Ok(mixed)
+}
+
+#[test]
+fn a_walk_over_damaged_images(rt: HostRuntime) {
+    assert!(rt; holds(walks(rt.alloc(), DISTRIBUTION)));
 }
