@@ -52,8 +52,19 @@ const PROCESS: Process = Process::PostStop;
 
 const JOB: &'static str = "%file a.conf\nexec /bin/d\n";
 
+fn loaded(alloc: Global, kind: u8) -> Result<Loaded, TextFault> {
+    match kind {
+        7 => match table_of(alloc, JOB) {
+            Ok(table) => Ok(Loaded::Files(table)),
+            Err(_) => Err(TextFault::Memory),
+        },
+        8 => Ok(Loaded::Refused(32)),
+        _ => Ok(Loaded::Unread),
+    }
+}
+
 // One input of each kind, and one for each outcome of a load.
-fn input(alloc: Global, kind: u8) -> Result<Input, Fail> {
+fn input(alloc: Global, kind: u8) -> Result<Input, TextFault> {
     let made = match kind {
         0 => Input::Request {
             id: 7,
@@ -76,17 +87,9 @@ fn input(alloc: Global, kind: u8) -> Result<Input, Fail> {
         },
         5 => Input::Clock(5),
         6 => Input::Turn,
-        7 => Input::Load {
-            id: 8,
-            loaded: Loaded::Files(table_of(alloc, JOB)?),
-        },
-        8 => Input::Load {
-            id: 8,
-            loaded: Loaded::Refused(32),
-        },
         _ => Input::Load {
             id: 8,
-            loaded: Loaded::Unread,
+            loaded: loaded(alloc, kind)?,
         },
     };
     Ok(made)
@@ -123,52 +126,75 @@ fn is_input(kind: u8, input: &Input) -> bool {
     }
 }
 
-fn is_request_copy(copied: Request) -> bool {
-    let is_request = is_request(&copied);
-    drop(copied);
-    is_request
+fn is_request_copy(copied: Result<Request, AllocError>) -> bool {
+    match copied {
+        Ok(copied) => {
+            let is_request = is_request(&copied);
+            drop(copied);
+            is_request
+        }
+        Err(_) => false,
+    }
 }
 
-fn is_event_copy(copied: Event) -> bool {
-    let is_event = is_event(&copied);
-    drop(copied);
-    is_event
+fn is_event_copy(copied: Result<Event, AllocError>) -> bool {
+    match copied {
+        Ok(copied) => {
+            let is_event = is_event(&copied);
+            drop(copied);
+            is_event
+        }
+        Err(_) => false,
+    }
 }
 
-fn is_who_copy(copied: Who) -> bool {
-    let is_who = is_who(&copied);
-    drop(copied);
-    is_who
+fn is_who_copy(copied: Result<Who, AllocError>) -> bool {
+    match copied {
+        Ok(copied) => {
+            let is_who = is_who(&copied);
+            drop(copied);
+            is_who
+        }
+        Err(_) => false,
+    }
 }
 
-fn part_is_copied(input: &Input) -> Result<bool, AllocError> {
+fn part_is_copied(input: &Input) -> bool {
     match input {
-        Input::Request { request, .. } => Ok(is_request_copy(request.copy()?)),
-        Input::Emit(event) => Ok(is_event_copy(event.copy()?)),
-        Input::Spawned { who, .. } => Ok(is_who_copy(who.copy()?)),
-        _ => Ok(true),
+        Input::Request { request, .. } => is_request_copy(request.copy()),
+        Input::Emit(event) => is_event_copy(event.copy()),
+        Input::Spawned { who, .. } => is_who_copy(who.copy()),
+        _ => true,
     }
 }
 
 // Whether a copy is the input, and parts of it are copied. Large values are dropped by a call, here and below: the prover would go through
 // each field of what a scope drops.
-fn is_input_copy(kind: u8, copied: Input) -> Result<bool, AllocError> {
-    let is_input = is_input(kind, &copied);
-    let part_is_copied = part_is_copied(&copied);
-    drop(copied);
-    Ok(is_input && part_is_copied?)
+fn is_input_copy(kind: u8, copied: Result<Input, AllocError>) -> bool {
+    match copied {
+        Ok(copied) => {
+            let is_copy = is_input(kind, &copied) && part_is_copied(&copied);
+            drop(copied);
+            is_copy
+        }
+        Err(_) => false,
+    }
 }
 
-fn input_is_copied(alloc: Global, kind: u8) -> Result<bool, Fail> {
-    let input = input(alloc, kind)?;
-    let copied = input.copy(alloc);
-    drop(input);
-    Ok(is_input_copy(kind, copied?)?)
+fn input_is_copied(alloc: Global, kind: u8) -> bool {
+    match input(alloc, kind) {
+        Ok(input) => {
+            let copied = input.copy(alloc);
+            drop(input);
+            is_input_copy(kind, copied)
+        }
+        Err(_) => false,
+    }
 }
 
 fn check_inputs(alloc: Global) -> Result<(), Fail> {
     for kind in 0..10u8 {
-        if !input_is_copied(alloc, kind)? {
+        if !input_is_copied(alloc, kind) {
             return Err(Fail::from(kind));
         }
     }
@@ -252,36 +278,49 @@ fn is_output(kind: u8, output: &Output) -> bool {
     }
 }
 
-fn is_answer_copy(copied: Answer) -> bool {
-    let is_answer = is_answer(&copied);
-    drop(copied);
-    is_answer
-}
-
-fn answer_is_copied(output: &Output) -> Result<bool, AllocError> {
-    match output {
-        Output::Reply { answer, .. } => Ok(is_answer_copy(answer.copy()?)),
-        _ => Ok(true),
+fn is_answer_copy(copied: Result<Answer, AllocError>) -> bool {
+    match copied {
+        Ok(copied) => {
+            let is_answer = is_answer(&copied);
+            drop(copied);
+            is_answer
+        }
+        Err(_) => false,
     }
 }
 
-fn is_output_copy(kind: u8, copied: Output) -> Result<bool, AllocError> {
-    let is_output = is_output(kind, &copied);
-    let answer_is_copied = answer_is_copied(&copied);
-    drop(copied);
-    Ok(is_output && answer_is_copied?)
+fn answer_is_copied(output: &Output) -> bool {
+    match output {
+        Output::Reply { answer, .. } => is_answer_copy(answer.copy()),
+        _ => true,
+    }
 }
 
-fn output_is_copied(alloc: Global, kind: u8) -> Result<bool, TextFault> {
-    let output = output(alloc, kind)?;
-    let copied = output.copy(alloc);
-    drop(output);
-    Ok(is_output_copy(kind, copied?)?)
+fn is_output_copy(kind: u8, copied: Result<Output, AllocError>) -> bool {
+    match copied {
+        Ok(copied) => {
+            let is_copy = is_output(kind, &copied) && answer_is_copied(&copied);
+            drop(copied);
+            is_copy
+        }
+        Err(_) => false,
+    }
+}
+
+fn output_is_copied(alloc: Global, kind: u8) -> bool {
+    match output(alloc, kind) {
+        Ok(output) => {
+            let copied = output.copy(alloc);
+            drop(output);
+            is_output_copy(kind, copied)
+        }
+        Err(_) => false,
+    }
 }
 
 fn check_outputs(alloc: Global) -> Result<(), Fail> {
     for kind in 0..4u8 {
-        if !output_is_copied(alloc, kind)? {
+        if !output_is_copied(alloc, kind) {
             return Err(Fail::from(kind));
         }
     }

@@ -1,9 +1,9 @@
 //! Which job is the first that an event may concern.
 use crate::events::files::files_of;
 use crate::text::{Pair, env_of};
-use std::alloc::{AllocError, Global};
+use std::alloc::Global;
 use std::test::Fail;
-use up_image::{ImageError, JobFile};
+use up_image::JobFile;
 use up_marks::{Finder, lesser_of};
 use up_model::Event;
 use up_text::{Name, TextFault};
@@ -130,35 +130,42 @@ fn event_with(alloc: Global, pairs: &[Pair]) -> Result<Event, TextFault> {
 }
 
 // Whether it is the next job that is found.
-fn is_next(
-    alloc: Global,
-    files: &[JobFile],
-    event: &Event,
-    case: &Case,
-) -> Result<bool, AllocError> {
-    let finder = Finder::of(alloc, files)?;
-    let next = finder.next_job(files, event, case.from);
-    drop(finder);
-    Ok(next == case.next)
+fn is_next(alloc: Global, files: &[JobFile], event: &Event, case: &Case) -> bool {
+    match Finder::of(alloc, files) {
+        Ok(finder) => {
+            let next = finder.next_job(files, event, case.from);
+            drop(finder);
+            next == case.next
+        }
+        Err(_) => false,
+    }
 }
 
-fn finds(alloc: Global, event: &Event, case: &Case) -> Result<bool, ImageError> {
-    let files = files_of(alloc, case.jobs)?;
-    let is_next = is_next(alloc, files.as_slice(), event, case);
-    drop(files);
-    Ok(is_next?)
+fn finds(alloc: Global, event: &Event, case: &Case) -> bool {
+    match files_of(alloc, case.jobs) {
+        Ok(files) => {
+            let is_next = is_next(alloc, files.as_slice(), event, case);
+            drop(files);
+            is_next
+        }
+        Err(_) => false,
+    }
 }
 
-fn holds(alloc: Global, case: &Case) -> Result<bool, Fail> {
-    let event = event_with(alloc, case.vars)?;
-    let finds = finds(alloc, &event, case);
-    drop(event);
-    Ok(finds?)
+fn holds(alloc: Global, case: &Case) -> bool {
+    match event_with(alloc, case.vars) {
+        Ok(event) => {
+            let finds = finds(alloc, &event, case);
+            drop(event);
+            finds
+        }
+        Err(_) => false,
+    }
 }
 
 fn check(alloc: Global, cases: &[Case]) -> Result<(), Fail> {
     for case in cases {
-        if !holds(alloc, case)? {
+        if !holds(alloc, case) {
             return Err(Fail::from(case.name));
         }
     }

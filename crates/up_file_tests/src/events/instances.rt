@@ -151,21 +151,31 @@ const CASES: &'static [Case] = &[
 ];
 
 // Makes an instance by a file, if it isn't there yet, and returns the number of its refusal, or 0.
-fn make(
-    alloc: Global,
-    file: &JobFile,
-    instances: &mut Instances,
-    job: &Name,
-    name: &str,
-) -> Result<u8, AllocError> {
+fn make(alloc: Global, file: &JobFile, instances: &mut Instances, job: &Name, name: &str) -> u8 {
     let there = instances.find(job, name).is_some();
     if there {
-        return Ok(1);
+        return 1;
     }
-    let stop_on = Trigger::new(alloc, &None)?;
-    match instances.add(job, name, file.share()?, stop_on) {
-        Ok(()) => Ok(0),
-        Err(fault) => Ok(fault.number()),
+    match both(file.share(), Trigger::new(alloc, &None)) {
+        Some((file, stop_on)) => match instances.add(job, name, file, stop_on) {
+            Ok(()) => 0,
+            Err(fault) => fault.number(),
+        },
+        None => 42,
+    }
+}
+
+// Both values, if there was memory for them.
+fn both<A: Drop, B: Drop>(
+    first: Result<A, AllocError>,
+    second: Result<B, AllocError>,
+) -> Option<(A, B)> {
+    match first {
+        Ok(first) => match second {
+            Ok(second) => Some((first, second)),
+            Err(_) => None,
+        },
+        Err(_) => None,
     }
 }
 
@@ -175,50 +185,50 @@ fn make_each(
     instances: &mut Instances,
     job: &Name,
     names: &[&str],
-) -> Result<bool, AllocError> {
+) -> bool {
     for name in names {
-        if make(alloc, file, instances, job, *name)? != 0 {
-            return Ok(false);
+        if make(alloc, file, instances, job, *name) != 0 {
+            return false;
         }
     }
-    Ok(true)
+    true
 }
 
-fn number_text(alloc: Global, number: u32) -> Result<String, AllocError> {
-    format!(in alloc; "{number}")
-}
-
-// Whether as many instances are made as a job may have.
-fn fill(
+fn make_numbered(
     alloc: Global,
     file: &JobFile,
     instances: &mut Instances,
     job: &Name,
+    number: u32,
 ) -> Result<bool, AllocError> {
-    for number in 0..1024u32 {
-        let name = number_text(alloc, number)?;
-        let made = make(alloc, file, instances, job, name.as_str());
-        drop(name);
-        if made? != 0 {
-            return Ok(false);
-        }
-    }
-    Ok(true)
+    let name = format!(in alloc; "{number}")?;
+    let made = make(alloc, file, instances, job, name.as_str());
+    drop(name);
+    Ok(made == 0)
 }
 
-fn make_of_own_file(
-    alloc: Global,
-    instances: &mut Instances,
-    job: &Name,
-    name: &'static str,
-) -> Result<bool, Fail> {
-    let files = files_of(alloc, JOB)?;
-    let made = match files.as_slice() {
-        [file] => make_each(alloc, file, instances, job, from_ref(&name)),
-        _ => Ok(false),
-    };
-    drop(files);
-    Ok(made?)
+// Whether as many instances are made as a job may have.
+fn fill(alloc: Global, file: &JobFile, instances: &mut Instances, job: &Name) -> bool {
+    for number in 0..1024u32 {
+        if !holds(make_numbered(alloc, file, instances, job, number)) {
+            return false;
+        }
+    }
+    true
+}
+
+fn make_of_own_file(alloc: Global, instances: &mut Instances, job: &Name, name: &str) -> bool {
+    match files_of(alloc, JOB) {
+        Ok(files) => {
+            let made = match files.first() {
+                Some(file) => make(alloc, file, instances, job, name) == 0,
+                None => false,
+            };
+            drop(files);
+            made
+        }
+        Err(_) => false,
+    }
 }
 
 // Removes an instance, if it is there.
@@ -297,11 +307,6 @@ fn has_alarms(instances: &mut Instances, moments: &[u64], early: u128, late: u12
     instances.alarm() == early && reads_alarm(instances, late)
 }
 
-fn replace(alloc: Global, file: &JobFile, instances: &mut Instances) -> Result<bool, AllocError> {
-    instances.replace(alloc, from_ref(file))?;
-    Ok(true)
-}
-
 fn stops(
     alloc: Global,
     instances: &Instances,
@@ -309,7 +314,9 @@ fn stops(
     count: usize,
 ) -> Result<bool, AllocError> {
     let index = Index::of_places(instances.stop_places(alloc)?)?;
-    Ok(index.places(event).len() == count)
+    let stops = index.places(event).len() == count;
+    drop(index);
+    Ok(stops)
 }
 
 // Whether what is seen is so.
@@ -337,46 +344,27 @@ fn succeeds(instances: &mut Instances, job: &Name, act: &Act) -> bool {
     }
 }
 
-fn goes(
-    alloc: Global,
-    file: &JobFile,
-    instances: &mut Instances,
-    job: &Name,
-    act: &Act,
-) -> Result<bool, AllocError> {
+fn takes(alloc: Global, file: &JobFile, instances: &mut Instances, job: &Name, act: &Act) -> bool {
     match act {
         Act::Makes(names) => make_each(alloc, file, instances, job, *names),
         Act::Fills => fill(alloc, file, instances, job),
-        Act::Refuses(name, number) => Ok(make(alloc, file, instances, job, *name)? == *number),
-        Act::Replaces => replace(alloc, file, instances),
-        Act::Stops(count) => stops(alloc, instances, job, *count),
-        other => Ok(succeeds(instances, job, other)),
-    }
-}
-
-fn takes(
-    alloc: Global,
-    file: &JobFile,
-    instances: &mut Instances,
-    job: &Name,
-    act: &Act,
-) -> Result<bool, Fail> {
-    match act {
+        Act::Refuses(name, number) => make(alloc, file, instances, job, *name) == *number,
         Act::MakesOfOwnFile(name) => make_of_own_file(alloc, instances, job, *name),
-        other => Ok(goes(alloc, file, instances, job, other)?),
+        Act::Replaces => instances.replace(alloc, from_ref(file)).is_ok(),
+        Act::Stops(count) => holds(stops(alloc, instances, job, *count)),
+        other => succeeds(instances, job, other),
     }
 }
 
-fn takes_step(
-    alloc: Global,
-    file: &JobFile,
-    instances: &mut Instances,
-    step: &Step,
-) -> Result<bool, Fail> {
-    let job = Name::new(alloc, step.0)?;
-    let takes = takes(alloc, file, instances, &job, &step.1);
-    drop(job);
-    takes
+fn takes_step(alloc: Global, file: &JobFile, instances: &mut Instances, step: &Step) -> bool {
+    match Name::new(alloc, step.0) {
+        Ok(job) => {
+            let takes = takes(alloc, file, instances, &job, &step.1);
+            drop(job);
+            takes
+        }
+        Err(_) => false,
+    }
 }
 
 // The place of the first step that goes otherwise.
@@ -385,20 +373,20 @@ fn first_other(
     file: &JobFile,
     instances: &mut Instances,
     steps: &[Step],
-) -> Result<Option<usize>, Fail> {
+) -> Option<usize> {
     for (place, step) in steps.iter().enumerate() {
-        if !takes_step(alloc, file, instances, step)? {
-            return Ok(Some(place));
+        if !takes_step(alloc, file, instances, step) {
+            return Some(place);
         }
     }
-    Ok(None)
+    None
 }
 
 fn check_case(alloc: Global, file: &JobFile, case: &Case) -> Result<(), Fail> {
     let mut instances = Instances::new(alloc);
     let other = first_other(alloc, file, &mut instances, case.steps);
     drop(instances);
-    match other? {
+    match other {
         Some(place) => Err(Fail::from((case.name, place))),
         None => Ok(()),
     }

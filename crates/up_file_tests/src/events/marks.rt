@@ -8,7 +8,7 @@ use up_expr::Condition;
 use up_image::JobFile;
 use up_marks::{Index, Marks, Offer};
 use up_model::{Event, EventId};
-use up_text::{Items, TextFault};
+use up_text::Items;
 
 // A job's stanza, and what becomes of its expression if events of these names, numbered from 1, are offered to it.
 struct Case {
@@ -65,13 +65,15 @@ fn offer(
     condition: &Condition,
     id: EventId,
     event: &Event,
-) -> Result<Option<Offer>, AllocError> {
+) -> Option<Offer> {
     if !marks.fits(condition) {
-        return Ok(None);
+        return None;
     }
     let places = index.leaves(&event.name, 0, true);
-    let offer = marks.offer(alloc, condition, places, id, event, &event.vars)?;
-    Ok(Some(offer))
+    match marks.offer(alloc, condition, places, id, event, &event.vars) {
+        Ok(offer) => Some(offer),
+        Err(_) => None,
+    }
 }
 
 fn offer_named(
@@ -81,28 +83,32 @@ fn offer_named(
     condition: &Condition,
     id: EventId,
     name: &str,
-) -> Result<Option<Offer>, TextFault> {
-    let event = event(alloc, name)?;
-    let offer = offer(alloc, marks, index, condition, id, &event);
-    drop(event);
-    Ok(offer?)
+) -> Option<Offer> {
+    match event(alloc, name) {
+        Ok(event) => {
+            let offer = offer(alloc, marks, index, condition, id, &event);
+            drop(event);
+            offer
+        }
+        Err(_) => None,
+    }
 }
 
-// Offers each event; what the last one changed, if the marks are those of the expression.
+// Offers each event; what the last one changed, if it could be offered.
 fn offer_each(
     alloc: Global,
     marks: &mut Marks,
     index: &Index,
     condition: &Condition,
     names: &[&str],
-) -> Result<Option<Offer>, TextFault> {
+) -> Option<Offer> {
     let mut last = None;
     let mut key = 0usize;
     for name in names {
         key = key.wrapping_add(1);
-        last = offer_named(alloc, marks, index, condition, EventId { key }, *name)?;
+        last = offer_named(alloc, marks, index, condition, EventId { key }, *name);
     }
-    Ok(last)
+    last
 }
 
 fn are_numbered(ids: &[EventId], numbers: &[usize]) -> bool {
@@ -117,25 +123,23 @@ fn are_numbered(ids: &[EventId], numbers: &[usize]) -> bool {
     true
 }
 
-fn have_numbers(ids: Items<EventId>, numbers: &[usize]) -> bool {
-    let are_numbered = are_numbered(ids.as_slice(), numbers);
-    drop(ids);
-    are_numbered
+fn have_numbers(ids: Result<Items<EventId>, AllocError>, numbers: &[usize]) -> bool {
+    match ids {
+        Ok(ids) => {
+            let are_numbered = are_numbered(ids.as_slice(), numbers);
+            drop(ids);
+            are_numbered
+        }
+        Err(_) => false,
+    }
 }
 
 // Whether these events are taken, and these given up after that.
-fn is_cleared(
-    alloc: Global,
-    marks: &mut Marks,
-    condition: &Condition,
-    case: &Case,
-) -> Result<bool, AllocError> {
-    Ok(
-        marks.fits(condition)
-            && have_numbers(marks.taken(alloc, condition)?, case.taken)
-            && have_numbers(marks.clear(alloc)?, case.cleared)
-            && !marks.holds(),
-    )
+fn is_cleared(alloc: Global, marks: &mut Marks, condition: &Condition, case: &Case) -> bool {
+    marks.fits(condition)
+        && have_numbers(marks.taken(alloc, condition), case.taken)
+        && have_numbers(marks.clear(alloc), case.cleared)
+        && !marks.holds()
 }
 
 fn is_last(last: Option<Offer>, kept: usize, holds: bool) -> bool {
@@ -151,46 +155,57 @@ fn leaves(
     index: &Index,
     condition: &Condition,
     case: &Case,
-) -> Result<bool, TextFault> {
-    let last = offer_each(alloc, marks, index, condition, case.events)?;
-    Ok(is_last(last, case.last.0, case.last.1) && is_cleared(alloc, marks, condition, case)?)
+) -> bool {
+    let last = offer_each(alloc, marks, index, condition, case.events);
+    is_last(last, case.last.0, case.last.1) && is_cleared(alloc, marks, condition, case)
 }
 
-fn try_condition(
-    alloc: Global,
-    index: &Index,
-    condition: &Condition,
-    case: &Case,
-) -> Result<bool, TextFault> {
-    let mut marks = Marks::new(alloc, condition)?;
-    let leaves = leaves(alloc, &mut marks, index, condition, case);
-    drop(marks);
-    leaves
+fn try_condition(alloc: Global, index: &Index, condition: &Condition, case: &Case) -> bool {
+    match Marks::new(alloc, condition) {
+        Ok(mut marks) => {
+            let leaves = leaves(alloc, &mut marks, index, condition, case);
+            drop(marks);
+            leaves
+        }
+        Err(_) => false,
+    }
 }
 
-fn try_files(alloc: Global, files: &[JobFile], case: &Case) -> Result<bool, TextFault> {
+fn try_index(alloc: Global, files: &[JobFile], condition: &Condition, case: &Case) -> bool {
+    match Index::of(alloc, files) {
+        Ok(index) => {
+            let tried = try_condition(alloc, &index, condition, case);
+            drop(index);
+            tried
+        }
+        Err(_) => false,
+    }
+}
+
+fn try_files(alloc: Global, files: &[JobFile], case: &Case) -> bool {
     let [file] = files else {
-        return Ok(false);
+        return false;
     };
-    let Some(condition) = &file.job().start_on else {
-        return Ok(false);
-    };
-    let index = Index::of(alloc, files)?;
-    let tried = try_condition(alloc, &index, condition, case);
-    drop(index);
-    tried
+    match &file.job().start_on {
+        Some(condition) => try_index(alloc, files, condition, case),
+        None => false,
+    }
 }
 
-fn holds(alloc: Global, case: &Case) -> Result<bool, Fail> {
-    let files = files_of(alloc, from_ref(&case.stanza))?;
-    let tried = try_files(alloc, files.as_slice(), case);
-    drop(files);
-    Ok(tried?)
+fn holds(alloc: Global, case: &Case) -> bool {
+    match files_of(alloc, from_ref(&case.stanza)) {
+        Ok(files) => {
+            let tried = try_files(alloc, files.as_slice(), case);
+            drop(files);
+            tried
+        }
+        Err(_) => false,
+    }
 }
 
 fn check(alloc: Global, cases: &[Case]) -> Result<(), Fail> {
     for case in cases {
-        if !holds(alloc, case)? {
+        if !holds(alloc, case) {
             return Err(Fail::from(case.name));
         }
     }

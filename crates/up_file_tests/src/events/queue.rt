@@ -1,5 +1,5 @@
 //! What becomes of a few events.
-use std::alloc::{AllocError, Global};
+use std::alloc::Global;
 use std::test::Fail;
 use up_event::{Events, Finished, TurnKind};
 use up_model::{Event, EventId};
@@ -115,14 +115,29 @@ const CASES: &'static [Case] = &[
     },
 ];
 
-fn push(
+fn push_event(
     events: &mut Events,
     ids: &mut Vec<EventId>,
     event: Event,
     waiter: Option<u64>,
-) -> Result<bool, AllocError> {
-    ids.push(events.push(event, waiter)?)?;
-    Ok(true)
+) -> bool {
+    match events.push(event, waiter) {
+        Ok(id) => ids.push(id).is_ok(),
+        Err(_) => false,
+    }
+}
+
+fn push(
+    alloc: Global,
+    events: &mut Events,
+    ids: &mut Vec<EventId>,
+    name: &str,
+    waiter: Option<u64>,
+) -> bool {
+    match event(alloc, name) {
+        Ok(event) => push_event(events, ids, event, waiter),
+        Err(_) => false,
+    }
 }
 
 fn handle(events: &mut Events, id: EventId) -> bool {
@@ -244,15 +259,10 @@ fn is_so(events: &Events, ids: &[EventId], act: &Act) -> bool {
     }
 }
 
-fn takes(
-    alloc: Global,
-    events: &mut Events,
-    ids: &mut Vec<EventId>,
-    act: &Act,
-) -> Result<bool, TextFault> {
+fn takes(alloc: Global, events: &mut Events, ids: &mut Vec<EventId>, act: &Act) -> bool {
     match act {
-        Act::Pushes(name, waiter) => Ok(push(events, ids, event(alloc, *name)?, *waiter)?),
-        other => Ok(succeeds(events, ids.as_slice(), other)),
+        Act::Pushes(name, waiter) => push(alloc, events, ids, *name, *waiter),
+        other => succeeds(events, ids.as_slice(), other),
     }
 }
 
@@ -262,13 +272,13 @@ fn first_other(
     events: &mut Events,
     ids: &mut Vec<EventId>,
     acts: &[Act],
-) -> Result<Option<usize>, TextFault> {
+) -> Option<usize> {
     for (place, act) in acts.iter().enumerate() {
-        if !takes(alloc, events, ids, act)? {
-            return Ok(Some(place));
+        if !takes(alloc, events, ids, act) {
+            return Some(place);
         }
     }
-    Ok(None)
+    None
 }
 
 fn check_case(alloc: Global, case: &Case) -> Result<(), Fail> {
@@ -277,7 +287,7 @@ fn check_case(alloc: Global, case: &Case) -> Result<(), Fail> {
     let other = first_other(alloc, &mut events, &mut ids, case.acts);
     drop(events);
     drop(ids);
-    match other? {
+    match other {
         Some(place) => Err(Fail::from((case.name, place))),
         None => Ok(()),
     }

@@ -4,7 +4,7 @@ use crate::events::queue::event;
 use std::alloc::Global;
 use std::slice::from_ref;
 use std::test::Fail;
-use up_image::{ImageError, JobFile};
+use up_image::JobFile;
 use up_marks::{may_stop, stop_leaves};
 use up_model::Event;
 
@@ -27,23 +27,31 @@ fn is_heard(files: &[JobFile], event: &Event, case: &Case) -> bool {
     }
 }
 
-fn hears(alloc: Global, event: &Event, case: &Case) -> Result<bool, ImageError> {
-    let files = files_of(alloc, from_ref(&case.0))?;
-    let heard = is_heard(files.as_slice(), event, case);
-    drop(files);
-    Ok(heard)
+fn hears(alloc: Global, event: &Event, case: &Case) -> bool {
+    match files_of(alloc, from_ref(&case.0)) {
+        Ok(files) => {
+            let heard = is_heard(files.as_slice(), event, case);
+            drop(files);
+            heard
+        }
+        Err(_) => false,
+    }
 }
 
-fn holds(alloc: Global, case: &Case) -> Result<bool, Fail> {
-    let event = event(alloc, case.1)?;
-    let hears = hears(alloc, &event, case);
-    drop(event);
-    Ok(hears?)
+fn holds(alloc: Global, case: &Case) -> bool {
+    match event(alloc, case.1) {
+        Ok(event) => {
+            let hears = hears(alloc, &event, case);
+            drop(event);
+            hears
+        }
+        Err(_) => false,
+    }
 }
 
 fn check(alloc: Global, cases: &[Case]) -> Result<(), Fail> {
     for case in cases {
-        if !holds(alloc, case)? {
+        if !holds(alloc, case) {
             return Err(Fail::from(case.0));
         }
     }
