@@ -5,15 +5,17 @@ use up_model::{Answer, Command, Request};
 use up_text::{Env, Text};
 use up_wire::{AnswerFeed, Feed, WireFault, write_answer, write_request};
 
-pub(crate) const START: &'static [u8] = &[0, 0, 0, 7, 1, 0, 0, 1, 97, 0, 0];
+/// The request `start a`.
+pub(crate) const START: &'static [u8] = b"\0\0\0\x07\x01\0\0\x01a\0\0";
 
-pub(crate) const STATUS: &'static [u8] = &[
-    0, 0, 0, 15, 0, 97, 32, 115, 116, 111, 112, 47, 119, 97, 105, 116, 105, 110, 103,
-];
+/// The answer `a stop/waiting`.
+pub(crate) const STATUS: &'static [u8] = b"\0\0\0\x0f\0a stop/waiting";
 
-const TOO_LARGE: &'static [u8] = &[0, 1, 0, 1];
+/// The length of a frame that is too large.
+pub(crate) const TOO_LARGE: &'static [u8] = b"\0\x01\0\x01";
 
-const UNKNOWN: &'static [u8] = &[0, 0, 0, 1, 255];
+/// A frame of an unknown command.
+pub(crate) const UNKNOWN: &'static [u8] = b"\0\0\0\x01\xff";
 
 fn is_start(requests: &[Request]) -> bool {
     match requests {

@@ -12,4 +12,6 @@ mod statuses;
 #[cfg(test)]
 mod streams;
 #[cfg(test)]
+mod tables;
+#[cfg(test)]
 mod words;

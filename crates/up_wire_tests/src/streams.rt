@@ -1,42 +1,24 @@
 //! Streams that are cut, and frames of which a byte is altered.
 use crate::frames::{START, STATUS};
-use std::alloc::{AllocError, Global};
+use std::alloc::Global;
 use std::test::Fail;
 use up_model::{Answer, Request};
 use up_text::Text;
 use up_wire::{AnswerFeed, Feed, WireFault, write_answer, write_request};
 
-/// Ten frames, of each command and of variables.
-const FRAMES: &'static [&'static [u8]] = &[
-    START,
-    // stop --no-wait a
-    &[0, 0, 0, 7, 2, 1, 0, 1, 97, 0, 0],
-    // restart a
-    &[0, 0, 0, 7, 3, 0, 0, 1, 97, 0, 0],
-    // status ab
-    &[0, 0, 0, 8, 4, 0, 0, 2, 97, 98, 0, 0],
-    // list
-    &[0, 0, 0, 6, 5, 0, 0, 0, 0, 0],
-    // emit go X=1
-    &[0, 0, 0, 14, 6, 0, 0, 2, 103, 111, 0, 1, 0, 1, 88, 0, 1, 49],
-    // reload a
-    &[0, 0, 0, 7, 7, 0, 0, 1, 97, 0, 0],
-    // reload-configuration
-    &[0, 0, 0, 6, 8, 0, 0, 0, 0, 0],
-    // version
-    &[0, 0, 0, 6, 9, 0, 0, 0, 0, 0],
-    // start a X= Y=2
-    &[
-        0, 0, 0, 18, 1, 0, 0, 1, 97, 0, 2, 0, 1, 88, 0, 0, 0, 1, 89, 0, 1, 50,
-    ],
-];
-
-fn join(bytes: &mut Vec<u8>, frames: &[&[u8]]) -> Result<(), AllocError> {
-    for frame in frames {
-        bytes.extend_from_slice(*frame)?;
-    }
-    Ok(())
-}
+// Ten frames, of each command and of variables: `start a`, `stop --no-wait a`, `restart a`, `status ab`, `list`, `emit go X=1`, `reload a`,
+// `reload-configuration`, `version` and `start a X= Y=2`.
+const FRAMES: &'static [u8] = b"\
+    \0\0\0\x07\x01\0\0\x01a\0\0\
+    \0\0\0\x07\x02\x01\0\x01a\0\0\
+    \0\0\0\x07\x03\0\0\x01a\0\0\
+    \0\0\0\x08\x04\0\0\x02ab\0\0\
+    \0\0\0\x06\x05\0\0\0\0\0\
+    \0\0\0\x0e\x06\0\0\x02go\0\x01\0\x01X\0\x011\
+    \0\0\0\x07\x07\0\0\x01a\0\0\
+    \0\0\0\x06\x08\0\0\0\0\0\
+    \0\0\0\x06\x09\0\0\0\0\0\
+    \0\0\0\x12\x01\0\0\x01a\0\x02\0\x01X\0\0\0\x01Y\0\x012";
 
 // Appends the frames of requests.
 fn rewrite(requests: &[Request], out: &mut Vec<u8>) -> Result<(), WireFault> {
@@ -104,20 +86,13 @@ fn check_cuts(alloc: Global, stream: &[u8], out: &mut Vec<u8>) -> Result<(), Fai
     Ok(())
 }
 
-fn check_stream(alloc: Global, stream: &mut Vec<u8>, out: &mut Vec<u8>) -> Result<(), Fail> {
-    join(stream, FRAMES)?;
-    if stream.len() != 126 {
-        return Err(Fail::from("the frames have not 126 bytes"));
-    }
-    check_cuts(alloc, stream.as_slice(), out)
-}
-
 #[test]
 fn every_cut_of_ten_frames_leaves_the_requests(rt: HostRuntime) -> Result<(), Fail> {
-    let mut stream = Vec::new(rt.alloc());
+    if FRAMES.len() != 126 {
+        return Err(Fail::from("the frames have not 126 bytes"));
+    }
     let mut out = Vec::new(rt.alloc());
-    let checked = check_stream(rt.alloc(), &mut stream, &mut out);
-    drop(stream);
+    let checked = check_cuts(rt.alloc(), FRAMES, &mut out);
     drop(out);
     checked
 }
