@@ -1,7 +1,8 @@
 //! A daemon over real children and a real socket.
 use crate::blinking::Blinking;
 use crate::edge::orders::path_of;
-use crate::stage::{add_job, compiled, same};
+use crate::parts::expect;
+use crate::stage::{add_job, compiled};
 use mio::net::UnixStream;
 use std::alloc::Global;
 use std::fs::remove_file;
@@ -44,17 +45,27 @@ struct Client {
     answer: Vec<u8>,
 }
 
-fn add_task(alloc: Global, folder: &mut Folder, path: &str, line: &str) -> Result<(), Fail> {
-    let file = format!(in alloc; "task\nscript\n{line}\nend script\n")?;
-    add_job(alloc, folder, path, file.as_str())
+// A task that waits for a file.
+fn add_waiting(alloc: Global, folder: &mut Folder, file: &str) -> Result<(), Fail> {
+    let job = format!(in alloc;
+        "task\nscript\nuntil [ -e {file} ]; do /bin/sleep 0.01; done\nend script\n"
+    )?;
+    let added = add_job(alloc, folder, "w.conf", job.as_str());
+    drop(job);
+    added
 }
 
-// One task waits for a file, and the other makes it.
+// A task that makes it.
+fn add_making(alloc: Global, folder: &mut Folder, file: &str) -> Result<(), Fail> {
+    let job = format!(in alloc; "task\nscript\n: > {file}\nend script\n")?;
+    let added = add_job(alloc, folder, "m.conf", job.as_str());
+    drop(job);
+    added
+}
+
 fn add_tasks(alloc: Global, folder: &mut Folder, file: &str) -> Result<(), Fail> {
-    let waits = format!(in alloc; "until [ -e {file} ]; do /bin/sleep 0.01; done")?;
-    add_task(alloc, folder, "w.conf", waits.as_str())?;
-    let makes = format!(in alloc; ": > {file}")?;
-    add_task(alloc, folder, "m.conf", makes.as_str())
+    add_waiting(alloc, folder, file)?;
+    add_making(alloc, folder, file)
 }
 
 // Like hosts and doors below, the folder is dropped by a call: the prover would go through each field of what a scope drops.
@@ -118,12 +129,16 @@ fn init_of(rt: &HostRuntime, socket: &str, file: &str, blinks: bool) -> Result<I
 }
 
 fn client_of(rt: &HostRuntime, socket: &str, request: &[u8]) -> Result<Client, Fail> {
-    let mut stream = UnixStream::connect(rt, socket)?;
-    stream.write_all(request)?;
-    Ok(Client {
-        stream,
-        answer: Vec::new(rt.alloc()),
-    })
+    let stream = UnixStream::connect(rt, socket)?;
+    let answer = Vec::new(rt.alloc());
+    let mut client = Client { stream, answer };
+    match client.stream.write_all(request) {
+        Ok(()) => Ok(client),
+        Err(error) => {
+            drop(client);
+            Err(Fail::from(error))
+        }
+    }
 }
 
 // Reads what has come.
@@ -153,11 +168,17 @@ fn answer_both(init: &mut Init, first: &mut Client, second: &mut Client) -> Resu
         do_round(init)?;
         hear(first)?;
         hear(second)?;
-        if first.answer.len() > 0 && second.answer.len() > 0 {
+        if !first.answer.is_empty() && !second.answer.is_empty() {
             return Ok(true);
         }
     }
     Ok(false)
+}
+
+fn try_both(init: &mut Init, first: &mut Client, second: &mut Client) -> Result<(), Fail> {
+    expect("both are answered", answer_both(init, first, second)?)?;
+    expect("the first", first.answer.as_slice() == STOPPED_W)?;
+    expect("the second", second.answer.as_slice() == STOPPED_M)
 }
 
 // The second client comes, whose task ends the first one's.
@@ -168,30 +189,33 @@ fn try_second(
     first: &mut Client,
 ) -> Result<(), Fail> {
     let mut second = client_of(rt, socket, START_M)?;
-    let answered = answer_both(init, first, &mut second)?;
-    same("both are answered", answered, true)?;
-    same("the first", first.answer.as_slice() == STOPPED_W, true)?;
-    same("the second", second.answer.as_slice() == STOPPED_M, true)
+    let tried = try_both(init, first, &mut second);
+    drop(second);
+    tried
 }
 
 // The first client waits, as its task does.
-fn try_first(
+fn try_first(init: &mut Init, first: &mut Client) -> Result<(), Fail> {
+    for _ in 0..FIRST_ROUNDS {
+        do_round(init)?;
+    }
+    hear(first)?;
+    expect("nothing is answered", first.answer.is_empty())
+}
+
+fn try_in_turn(
     rt: &HostRuntime,
     init: &mut Init,
     socket: &str,
     first: &mut Client,
 ) -> Result<(), Fail> {
-    for _ in 0..FIRST_ROUNDS {
-        do_round(init)?;
-    }
-    hear(first)?;
-    same("nothing is answered", first.answer.len(), 0)?;
+    try_first(init, first)?;
     try_second(rt, init, socket, first)
 }
 
 fn try_clients(rt: &HostRuntime, init: &mut Init, socket: &str) -> Result<(), Fail> {
     let mut first = client_of(rt, socket, START_W)?;
-    let tried = try_first(rt, init, socket, &mut first);
+    let tried = try_in_turn(rt, init, socket, &mut first);
     drop(first);
     tried
 }
@@ -208,21 +232,33 @@ fn remove(rt: &HostRuntime, path: &str) {
     let _ = remove_file(rt, path).is_ok();
 }
 
-fn try_at(rt: &HostRuntime, (socket, file): (&str, &str), blinks: bool) -> Result<(), Fail> {
-    let socket = path_of(rt, socket)?;
+fn try_files(rt: &HostRuntime, socket: &str, file: &str, blinks: bool) -> Result<(), Fail> {
+    let tried = try_init(rt, socket, file, blinks);
+    remove(rt, socket);
+    remove(rt, file);
+    tried
+}
+
+fn try_file(rt: &HostRuntime, socket: &str, file: &str, blinks: bool) -> Result<(), Fail> {
     let file = path_of(rt, file)?;
-    let tried = try_init(rt, socket.as_str(), file.as_str(), blinks);
-    remove(rt, socket.as_str());
-    remove(rt, file.as_str());
+    let tried = try_files(rt, socket, file.as_str(), blinks);
+    drop(file);
+    tried
+}
+
+fn try_at(rt: &HostRuntime, socket: &str, file: &str, blinks: bool) -> Result<(), Fail> {
+    let socket = path_of(rt, socket)?;
+    let tried = try_file(rt, socket.as_str(), file, blinks);
+    drop(socket);
     tried
 }
 
 #[test]
 fn a_task_that_waits_for_another_keeps_no_client_waiting(rt: HostRuntime) -> Result<(), Fail> {
-    try_at(&rt, ("init", "made"), false)
+    try_at(&rt, "init", "made", false)
 }
 
 #[test]
 fn a_poll_that_fails_keeps_no_client_waiting(rt: HostRuntime) -> Result<(), Fail> {
-    try_at(&rt, ("blinking", "made-blinking"), true)
+    try_at(&rt, "blinking", "made-blinking", true)
 }

@@ -21,6 +21,12 @@ mod leaving;
 #[cfg(test)]
 mod loading;
 #[cfg(test)]
+mod parts;
+#[cfg(test)]
+mod rounds;
+#[cfg(test)]
+mod scripted;
+#[cfg(test)]
 mod stage;
 #[cfg(test)]
 mod waiting;

@@ -1,115 +1,85 @@
 //! Rounds in which clients have the configuration read again.
-use crate::clients::{RELOAD_ALL, Said, one_client, one_process, pass};
-use crate::stage::{Scene, make_scene, same, table_of, with_loads};
-use crate::waiting::has_written;
-use std::alloc::Global;
+use crate::parts::{expect, push};
+use crate::rounds::play;
+use crate::scripted::{door, host};
+use crate::stage::{Before, Scene, make_scene, table_of};
+use std::alloc::{AllocError, Global};
 use std::test::Fail;
-use up_edge::{Source, SourceFault};
+use up_edge::{ScriptSource, SourceFault};
 use up_model::Loaded;
 
-// What a source gives at its call.
-#[derive(Clone, Copy)]
-enum Gives {
-    Jobs,
-    Refusal,
-    Nothing,
-}
-
-// What the source gives at a client's request, and the frame of the answer.
-struct Case {
-    name: &'static str,
-    gives: Gives,
-    answer: &'static [u8],
-    // how many entries the source's record has after the round, and how many of its calls failed
-    told: (usize, u64),
-}
-
-fn given(alloc: Global, gives: Gives) -> Result<Option<Loaded>, Fail> {
-    match gives {
-        Gives::Jobs => {
-            let table = table_of(alloc, "start on go\nexec /bin/e\n")?;
-            Ok(Some(Loaded::Files(table)))
+fn source_of(alloc: Global, load: Option<Loaded>) -> Result<ScriptSource, AllocError> {
+    let mut loads: Vec<Option<Loaded>> = Vec::new(alloc);
+    match push(&mut loads, load) {
+        Ok(()) => Ok(ScriptSource::new(alloc, loads)),
+        Err(refused) => {
+            drop(loads);
+            Err(refused)
         }
-        Gives::Refusal => Ok(Some(Loaded::Refused(32))),
-        Gives::Nothing => Ok(None),
     }
 }
 
-static CASES: [Case; 3] = [
-    Case {
-        name: "jobs are loaded",
-        gives: Gives::Jobs,
-        answer: b"\0\0\0\x01\0",
-        told: (1, 0),
-    },
-    Case {
-        name: "an image is refused",
-        gives: Gives::Refusal,
-        answer: b"\0\0\0\x1a\x01Configuration refused: 32",
-        told: (1, 0),
-    },
-    Case {
-        name: "the call fails",
-        gives: Gives::Nothing,
-        answer: b"\0\0\0\x17\x01Configuration not read",
-        told: (0, 1),
-    },
-];
-
-fn check_round(scene: &mut Scene, case: &Case) -> Result<(), Fail> {
-    let passed = pass(scene)?;
-    same(case.name, passed, (1, case.answer.len(), 0))?;
-    same(case.name, has_written(&scene.door, case.answer), true)?;
-    let told = (scene.source.happened().len(), scene.source.faults());
-    same(case.name, told, case.told)
-}
-
-// The next round empties the record, and makes no call.
-fn check_next(scene: &mut Scene, case: &Case) -> Result<(), Fail> {
-    let passed = pass(scene)?;
-    same(case.name, passed, (0, 0, 0))?;
-    let told = (scene.source.happened().len(), scene.source.faults());
-    same(case.name, told, (0, case.told.1))
-}
-
-fn loads_of(alloc: Global, case: &Case) -> Result<Vec<Option<Loaded>>, Fail> {
-    let given = given(alloc, case.gives)?;
-    let mut loads: Vec<Option<Loaded>> = Vec::new(alloc);
-    loads.push(given)?;
-    Ok(loads)
-}
-
-fn scene_of(alloc: Global, case: &Case) -> Result<Scene, Fail> {
-    let loads = loads_of(alloc, case)?;
-    let door = one_client(alloc, &[Said::Bytes(RELOAD_ALL)], &[]);
-    match make_scene(alloc, one_process(alloc), door) {
-        Ok(scene) => Ok(with_loads(alloc, scene, loads)),
+// A scene whose source gives this.
+fn scene_of(alloc: Global, source: ScriptSource) -> Result<Scene, Fail> {
+    let door = door(alloc, "reload-configuration", "", &[]);
+    match make_scene(alloc, Before::Go, host(alloc, &[100]), door) {
+        Ok(mut scene) => {
+            scene.source = source;
+            Ok(scene)
+        }
         Err(fail) => {
-            drop(loads);
+            drop(source);
             Err(fail)
         }
     }
 }
 
-fn check(alloc: Global, case: &Case) -> Result<(), Fail> {
-    let mut scene = scene_of(alloc, case)?;
-    let checked = match check_round(&mut scene, case) {
-        Ok(()) => check_next(&mut scene, case),
-        Err(fail) => Err(fail),
-    };
-    drop(scene);
-    checked
+// What comes of what the source gives at a client's request. The next round empties the record, and makes no call.
+fn check(alloc: Global, load: Option<Loaded>, script: &'static str) -> Result<(), Fail> {
+    let source = source_of(alloc, load)?;
+    play(scene_of(alloc, source), script)
 }
+
+const JOBS: &str = "\
+passes|1 5 0
+answer|\0\0\0\x01\0
+loads|1
+source faults|0
+passes|0 0 0
+loads|0
+source faults|0
+";
+
+const REFUSED: &str = "\
+passes|1 30 0
+answer|\0\0\0\x1a\x01Configuration refused: 32
+loads|1
+source faults|0
+passes|0 0 0
+loads|0
+source faults|0
+";
+
+const FAILED: &str = "\
+passes|1 27 0
+answer|\0\0\0\x17\x01Configuration not read
+loads|0
+source faults|1
+passes|0 0 0
+loads|0
+source faults|1
+";
 
 #[test]
 fn a_request_to_reload_is_one_call_of_the_source(rt: HostRuntime) -> Result<(), Fail> {
-    for case in &CASES {
-        check(rt.alloc(), case)?;
-    }
-    Ok(())
+    let alloc = rt.alloc();
+    let table = table_of(alloc, "start on go\nexec /bin/e\n")?;
+    check(alloc, Some(Loaded::Files(table)), JOBS)?;
+    check(alloc, Some(Loaded::Refused(32)), REFUSED)?;
+    check(alloc, None, FAILED)
 }
 
 #[test]
 fn a_fault_of_a_source_has_its_number(_: HostRuntime) -> Result<(), Fail> {
-    same("the number", SourceFault.number(), 63)
+    expect("the number", SourceFault.number() == 63)
 }

@@ -1,6 +1,5 @@
 //! A system whose processes end strangely, and which refuses what the real one can't be made to refuse.
-use crate::edge::orders::{order_in, who};
-use crate::stage::same;
+use crate::edge::calls::play;
 use std::alloc::Allocator;
 use std::cell::Cell;
 use std::io;
@@ -9,8 +8,7 @@ use std::process::{Child, Command, ExitStatus, OpenProcess, Processes, Stdio};
 use std::rt::Clock;
 use std::test::Fail;
 use std::time::Duration;
-use up_edge::{Host, HostFault, RealHost};
-use up_model::How;
+use up_edge::RealHost;
 
 #[derive(Drop)]
 enum FakeProcess {
@@ -99,117 +97,68 @@ fn host_of(rt: &HostRuntime, readings: u32) -> io::Result<System> {
     RealHost::new(rt.alloc(), FakeSystem { readings })
 }
 
-// Tries something with such a host.
-fn with_host<F: Fn(&HostRuntime, &mut System) -> Result<(), Fail>>(
-    rt: &HostRuntime,
-    readings: u32,
-    attempt: F,
-) -> Result<(), Fail>
-    requires { F.IsAlwaysCallable attempt }
-{
+// Plays a script with such a host.
+fn with_host(rt: &HostRuntime, readings: u32, script: &'static str) -> Result<(), Fail> {
     let mut host = host_of(rt, readings)?;
-    let tried = attempt(rt, &mut host);
+    let played = play(rt, &mut host, script);
     drop(host);
-    tried
+    played
 }
 
-// What comes of a spawn.
-fn spawn(
-    rt: &HostRuntime,
-    host: &mut System,
-    program: &str,
-) -> Result<Result<u32, HostFault>, Fail> {
-    let order = order_in(rt.alloc(), "/", &[program], true)?;
-    let spawned = host.spawn(&order);
-    drop(order);
-    Ok(spawned)
-}
-
-fn start(rt: &HostRuntime, host: &mut System, program: &str) -> Result<(), Fail> {
-    let _ = spawn(rt, host, program)??;
-    Ok(())
-}
-
-// What comes of a signal.
-fn signal(rt: &HostRuntime, host: &mut System) -> Result<Result<(), HostFault>, Fail> {
-    let who = who(rt.alloc())?;
-    let sent = host.signal(&who, 7, 9);
-    drop(who);
-    Ok(sent)
-}
-
-fn polled(host: &mut System) -> Result<Option<How>, HostFault> {
-    match host.poll()? {
-        Some((_, _, how)) => Ok(Some(how)),
-        None => Ok(None),
-    }
-}
-
-fn try_stopped(rt: &HostRuntime, host: &mut System) -> Result<(), Fail> {
-    start(rt, host, "/stopped")?;
-    same("a poll", polled(host), Ok(Some(How::Signal(0))))?;
-    Ok(())
-}
+const STOPPED: &str = "\
+spawn / /stopped|7
+poll|signal 0
+";
 
 #[test]
 fn an_unknown_status_is_signal_0(rt: HostRuntime) -> Result<(), Fail> {
-    with_host(&rt, 1, try_stopped)
+    with_host(&rt, 1, STOPPED)
 }
 
-fn try_lost(rt: &HostRuntime, host: &mut System) -> Result<(), Fail> {
-    start(rt, host, "/lost")?;
-    start(rt, host, "/exited")?;
-    same("a poll", polled(host), Err(HostFault))?;
-    same("a poll", polled(host), Ok(Some(How::Exit(5))))?;
-    same("a poll", polled(host), Ok(None))?;
-    same(
-        "entries and faults",
-        (host.happened().len(), host.faults()),
-        (4, 1),
-    )?;
-    Ok(())
-}
+const LOST: &str = "\
+spawn / /lost|7
+spawn / /exited|7
+poll|fault
+poll|exit 5
+poll|nothing
+entries|4
+faults|1
+";
 
 #[test]
 fn a_child_of_which_nothing_is_told_hides_no_other(rt: HostRuntime) -> Result<(), Fail> {
-    with_host(&rt, 1, try_lost)
+    with_host(&rt, 1, LOST)
 }
 
-fn try_living(rt: &HostRuntime, host: &mut System) -> Result<(), Fail> {
-    start(rt, host, "/living")?;
-    start(rt, host, "/exited")?;
-    same("a poll", polled(host), Ok(Some(How::Exit(5))))?;
-    same("a poll", polled(host), Ok(None))?;
-    same("a poll", polled(host), Ok(None))?;
-    same(
-        "entries and faults",
-        (host.happened().len(), host.faults()),
-        (5, 0),
-    )?;
-    Ok(())
-}
+const LIVING: &str = "\
+spawn / /living|7
+spawn / /exited|7
+poll|exit 5
+poll|nothing
+poll|nothing
+entries|5
+faults|0
+";
 
 #[test]
 fn a_child_that_lives_is_not_waited_for(rt: HostRuntime) -> Result<(), Fail> {
-    with_host(&rt, 1, try_living)
+    with_host(&rt, 1, LIVING)
 }
 
-fn try_refusals(rt: &HostRuntime, host: &mut System) -> Result<(), Fail> {
-    same("a spawn", spawn(rt, host, "/refused")?, Err(HostFault))?;
-    start(rt, host, "/living")?;
-    same("a signal", signal(rt, host)?, Err(HostFault))?;
-    same("a reading", host.now(), Ok(0))?;
-    same("a reading", host.now(), Err(HostFault))?;
-    same(
-        "entries and faults",
-        (host.happened().len(), host.faults()),
-        (2, 3),
-    )?;
-    Ok(())
-}
+const REFUSALS: &str = "\
+spawn / /refused|fault
+spawn / /living|7
+signal 9|fault
+clock|0
+clock|fault
+entries|2
+faults|3
+";
 
 #[test]
 fn what_the_system_refuses_is_a_fault(rt: HostRuntime) -> Result<(), Fail> {
-    same("a host without a clock", host_of(&rt, 0).is_err(), true)?;
-    with_host(&rt, 2, try_refusals)
+    if host_of(&rt, 0).is_ok() {
+        return Err(Fail::from("a host without a clock"));
+    }
+    with_host(&rt, 2, REFUSALS)
 }
