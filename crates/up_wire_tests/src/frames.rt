@@ -1,4 +1,5 @@
 //! Frames, byte by byte.
+use crate::tables::expect;
 use std::alloc::Global;
 use std::test::Fail;
 use up_model::{Answer, Command, Request};
@@ -66,8 +67,8 @@ fn a_request_is_read_whole_and_byte_by_byte(rt: HostRuntime) -> Result<(), Fail>
     let whole = gives_start(&mut feed, START);
     let by_bytes = start_comes_last(&mut feed, START);
     drop(feed);
-    assert!(rt; whole? && by_bytes?);
-    Ok(())
+    expect("whole", whole?)?;
+    expect("byte by byte", by_bytes?)
 }
 
 fn start_of(alloc: Global) -> Result<Request, WireFault> {
@@ -135,10 +136,9 @@ fn writes_status(alloc: Global) -> Result<bool, WireFault> {
 
 #[test]
 fn a_request_and_an_answer_are_written(rt: HostRuntime) -> Result<(), Fail> {
-    assert!(rt; writes_start(rt.alloc())?);
-    assert!(rt; writes_status(rt.alloc())?);
-    assert!(rt; reads_status(rt.alloc())?);
-    Ok(())
+    expect("a request is written", writes_start(rt.alloc())?)?;
+    expect("an answer is written", writes_status(rt.alloc())?)?;
+    expect("an answer is read", reads_status(rt.alloc())?)
 }
 
 fn has_fault(fed: Result<Vec<Request>, WireFault>, fault: WireFault) -> bool {
@@ -161,7 +161,8 @@ fn is_refused(alloc: Global, bytes: &[u8], fault: WireFault) -> bool {
 }
 
 #[test]
-fn faulty_frames_are_refused_for_good(rt: HostRuntime) {
-    assert!(rt; is_refused(rt.alloc(), TOO_LARGE, WireFault::FrameTooLarge));
-    assert!(rt; is_refused(rt.alloc(), UNKNOWN, WireFault::BadFrame));
+fn faulty_frames_are_refused_for_good(rt: HostRuntime) -> Result<(), Fail> {
+    let too_large = is_refused(rt.alloc(), TOO_LARGE, WireFault::FrameTooLarge);
+    let unknown = is_refused(rt.alloc(), UNKNOWN, WireFault::BadFrame);
+    expect("both are refused", too_large && unknown)
 }

@@ -2,6 +2,7 @@
 //!
 //! `rt try --test --fail-alloc N -- memory` refuses the Nth request; `bench/faults` goes through all of them with the built tests.
 use crate::frames::{START, STATUS, TOO_LARGE, UNKNOWN, count};
+use crate::tables::expect;
 use std::alloc::Global;
 use std::test::Fail;
 use up_model::Answer;
@@ -100,15 +101,15 @@ fn is_faulty(alloc: Global, bytes: &[u8], fault: WireFault) -> bool {
 }
 
 #[test]
-fn always_memory(rt: HostRuntime) {
-    assert!(rt; take_all(rt.alloc(), false));
+fn always_memory(rt: HostRuntime) -> Result<(), Fail> {
+    expect("all are whole", take_all(rt.alloc(), false))
 }
 
 #[test]
-fn memory_refused(rt: HostRuntime) {
-    assert!(rt;
-        take_all(rt.alloc(), true)
-            && is_faulty(rt.alloc(), TOO_LARGE, WireFault::FrameTooLarge)
-            && is_faulty(rt.alloc(), UNKNOWN, WireFault::BadFrame)
-    );
+fn memory_refused(rt: HostRuntime) -> Result<(), Fail> {
+    let are_taken = take_all(rt.alloc(), true);
+    let too_large = is_faulty(rt.alloc(), TOO_LARGE, WireFault::FrameTooLarge);
+    let unknown = is_faulty(rt.alloc(), UNKNOWN, WireFault::BadFrame);
+    expect("all are whole or refused", are_taken)?;
+    expect("faulty frames are refused", too_large && unknown)
 }

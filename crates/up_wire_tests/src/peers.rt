@@ -1,6 +1,6 @@
 //! The client against peers: shells at the other end of a socket, and a stream that never has an answer.
 use crate::frames::START;
-use crate::tables::fields;
+use crate::tables::{expect, fields};
 use std::alloc::{AllocError, Global};
 use std::io;
 use std::io::{Read, Write};
@@ -152,10 +152,11 @@ fn is_lost(answer: Result<Answer, TalkFault>) -> bool {
 }
 
 #[test]
-fn a_peer_that_never_answers_is_given_up(rt: HostRuntime) {
+fn a_peer_that_never_answers_is_given_up(rt: HostRuntime) -> Result<(), Fail> {
     let mut silent = Silent { reads: 0 };
     let answer = talk(rt.alloc(), &mut silent, START);
-    assert!(rt; is_lost(answer) && silent.reads == MAX_READS);
+    expect("it is lost", is_lost(answer))?;
+    expect("the reads", silent.reads == MAX_READS)
 }
 
 // In each row the client's status, and its words.

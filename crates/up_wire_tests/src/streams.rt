@@ -1,5 +1,6 @@
 //! Streams that are cut, and frames of which a byte is altered.
 use crate::frames::{START, STATUS};
+use crate::tables::expect;
 use std::alloc::Global;
 use std::test::Fail;
 use up_model::{Answer, Request};
@@ -105,16 +106,36 @@ fn is_sound(fed: Result<(), WireFault>, bytes: &[u8], out: &[u8]) -> bool {
     }
 }
 
-fn feed_once(alloc: Global, bytes: &[u8], out: &mut Vec<u8>) -> Result<(), WireFault> {
-    let mut its = Feed::new(alloc);
-    let fed = feed(&mut its, bytes, out);
-    drop(its);
-    fed
+// Appends the frames of the answers of pieces of so many bytes.
+fn feed_pieces(
+    its: &mut AnswerFeed,
+    bytes: &[u8],
+    size: usize,
+    out: &mut Vec<u8>,
+) -> Result<(), WireFault> {
+    let mut rest = bytes;
+    for _ in 0..bytes.len() {
+        if rest.is_empty() {
+            return Ok(());
+        }
+        let (piece, after) = match rest.split_at_checked(size) {
+            Some(parts) => parts,
+            None => (rest, &rest[..0]),
+        };
+        feed_answers(its, piece, out)?;
+        rest = after;
+    }
+    Ok(())
 }
 
-fn feed_answers_once(alloc: Global, bytes: &[u8], out: &mut Vec<u8>) -> Result<(), WireFault> {
+fn feed_in_pieces(
+    alloc: Global,
+    bytes: &[u8],
+    size: usize,
+    out: &mut Vec<u8>,
+) -> Result<(), WireFault> {
     let mut its = AnswerFeed::new(alloc);
-    let fed = feed_answers(&mut its, bytes, out);
+    let fed = feed_pieces(&mut its, bytes, size, out);
     drop(its);
     fed
 }
@@ -122,9 +143,9 @@ fn feed_answers_once(alloc: Global, bytes: &[u8], out: &mut Vec<u8>) -> Result<(
 fn reads_soundly(alloc: Global, bytes: &[u8], answers: bool, out: &mut Vec<u8>) -> bool {
     out.clear();
     let fed = if answers {
-        feed_answers_once(alloc, bytes, out)
+        feed_in_pieces(alloc, bytes, bytes.len(), out)
     } else {
-        feed_once(alloc, bytes, out)
+        feed_two(alloc, bytes, b"", out)
     };
     is_sound(fed, bytes, out.as_slice())
 }
@@ -201,28 +222,6 @@ fn write_long(alloc: Global, bytes: &mut Vec<u8>) -> Result<(), WireFault> {
     Ok(bytes.extend_from_slice(STATUS)?)
 }
 
-// Appends the frames of the answers of pieces of so many bytes.
-fn feed_pieces(
-    its: &mut AnswerFeed,
-    bytes: &[u8],
-    size: usize,
-    out: &mut Vec<u8>,
-) -> Result<(), WireFault> {
-    let mut rest = bytes;
-    for _ in 0..bytes.len() {
-        if rest.is_empty() {
-            return Ok(());
-        }
-        let (piece, after) = match rest.split_at_checked(size) {
-            Some(parts) => parts,
-            None => (rest, &rest[..0]),
-        };
-        feed_answers(its, piece, out)?;
-        rest = after;
-    }
-    Ok(())
-}
-
 fn is_same_in_pieces(
     alloc: Global,
     bytes: &[u8],
@@ -230,10 +229,7 @@ fn is_same_in_pieces(
     out: &mut Vec<u8>,
 ) -> Result<bool, WireFault> {
     out.clear();
-    let mut its = AnswerFeed::new(alloc);
-    let fed = feed_pieces(&mut its, bytes, size, out);
-    drop(its);
-    fed?;
+    feed_in_pieces(alloc, bytes, size, out)?;
     Ok(out.as_slice() == bytes)
 }
 
@@ -255,6 +251,5 @@ fn a_long_answer_is_the_same_in_pieces(rt: HostRuntime) -> Result<(), Fail> {
     let same = is_long_the_same(rt.alloc(), &mut bytes, &mut out);
     drop(bytes);
     drop(out);
-    assert!(rt; same?);
-    Ok(())
+    expect("whole and in pieces", same?)
 }

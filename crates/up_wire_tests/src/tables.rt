@@ -1,7 +1,8 @@
 //! What tables of cases share.
 //!
 //! Most tables are texts: the prover goes through each string of an array, and through none of a text.
-use std::alloc::{AllocError, Global};
+use std::alloc::AllocError;
+use std::test::Fail;
 
 /// The three fields of a row, between which are `|`.
 pub(crate) fn fields(row: &str) -> Option<(&str, &str, &str)> {
@@ -14,11 +15,18 @@ pub(crate) fn fields(row: &str) -> Option<(&str, &str, &str)> {
     }
 }
 
-/// The words of a line, between which are single spaces.
-pub(crate) fn words_of<'a>(alloc: Global, line: &'a str) -> Result<Vec<&'a str>, AllocError> {
-    let mut words = Vec::new(alloc);
+/// Adds the words of a line, between which are single spaces.
+pub(crate) fn push_words<'a>(words: &mut Vec<&'a str>, line: &'a str) -> Result<(), AllocError> {
     for word in line.split(' ') {
         words.push(word)?;
     }
-    Ok(words)
+    Ok(())
+}
+
+/// Fails with the name of what should hold and doesn't.
+pub(crate) fn expect(name: &str, holds: bool) -> Result<(), Fail> {
+    if holds {
+        return Ok(());
+    }
+    Err(Fail::from(name))
 }

@@ -1,5 +1,5 @@
 //! Words, and the requests that they are.
-use crate::tables::{fields, words_of};
+use crate::tables::{fields, push_words};
 use std::alloc::Global;
 use std::test::Fail;
 use up_model::Request;
@@ -90,9 +90,11 @@ fn holds(alloc: Global, row: &str, wait: bool) -> Result<bool, Fail> {
     let Some((line, command, wanted)) = fields(row) else {
         return Ok(row.starts_with('#'));
     };
-    let words = words_of(alloc, line)?;
+    let mut words: Vec<&str> = Vec::new(alloc);
+    let pushed = push_words(&mut words, line);
     let are_read = are_read(alloc, words.as_slice(), command, wanted, wait);
     drop(words);
+    pushed?;
     Ok(are_read)
 }
 
