@@ -4,481 +4,255 @@ use std::test::Fail;
 use up_command::{Invocation, Kind, ReportOptions, Rounds, View, parse_args, print_refusal};
 use up_text::{Env, Text};
 
-// What a command line gives: what it asks for, or the status or the text of its refusal.
-enum Wanted {
-    Bundle,
-    Check {
-        dir: &'static str,
-        explain: bool,
-    },
-    Compare {
-        dir: &'static str,
-        other: &'static str,
-    },
-    Lint {
-        dir: &'static str,
-        left_out: &'static [Kind],
-        outside: &'static [&'static str],
-    },
-    Compile {
-        dir: &'static str,
-        image: &'static str,
-    },
-    Show {
-        image: &'static str,
-    },
-    Replay {
-        source: &'static str,
-        script: &'static str,
-        // One of its variables, and how many there are.
-        one: Option<(&'static str, &'static str)>,
-        count: usize,
-    },
-    ReplayFile {
-        bundle: &'static str,
-        // How many variables there are.
-        count: usize,
-    },
-    View {
-        view: View,
-        source: &'static str,
-        log: &'static str,
-    },
-    ViewFile {
-        view: View,
-        bundle: &'static str,
-    },
-    Run {
-        source: &'static str,
-        socket: &'static str,
-        rounds: Rounds,
-        options: ReportOptions<'static>,
-    },
-    Status(u8),
-    Text(&'static str),
-}
+// In each row the words of a command line, with commas between them, and what it asks for, as `push_asked` writes it.
+const ASKED: &'static str = "\
+initd|bundle,,
+initd,check,jobs|check,jobs,
+initd,check,--,-x|check,-x,
+initd,check,jobs,--explain|explain,jobs,
+initd,check,jobs,--against,jobs.image|compare,jobs,jobs.image
+initd,graph,jobs|graph,jobs,
+initd,replay,jobs/,a script|replay,jobs/,a script
+initd,replay,check,replay|replay,check,replay
+initd,replay,a,b,--env,A=1,--env,B=x=y,--env,A=|replay,a,b,A=,B=x=y
+initd,replay,--bundle,a,--env,A=1|replay a bundle,a,,A=1
+initd,chart,jobs,a record|chart,jobs,a record
+initd,blame,a record,--bundle|blame a bundle,a record,
+initd,lint,jobs|lint,jobs,
+initd,lint,--allow,crash-loop,--event,up,jobs,--allow,never-stopped,--event,up down|lint,jobs,,without crash-loop,without never-stopped,up,up down
+initd,compile,jobs,jobs.image|compile,jobs,jobs.image
+initd,show,jobs.image|show,jobs.image,
+initd,run,jobs.image,--verbose,s,--record,r,--rounds,3|run,jobs.image,s,verbose,record r,3 rounds,10 ms,60 s
+initd,run,jobs|run,jobs,/run/initd.socket,4294967295 rounds,10 ms,60 s
+initd,run,--quiet,jobs,s,--tell=t,--record-over,--pause,0,--client-timeout=1|run,jobs,s,quiet,tell t,over,4294967295 rounds,0 ms,1 s
+";
 
-type Case = (&'static [&'static str], Wanted);
+// In each row the words of a command line that is refused, and the status that is printed for it.
+const REFUSED: &'static str = "\
+initd,check|status 2
+initd,check,a,b|status 2
+initd,check,a,--against|status 2
+initd,check,--explain,a,--against,b|status 2
+initd,replay,a|status 2
+initd,replay,a,b,c|status 2
+initd,replay,--bundle,a,b|status 2
+initd,chart,a|status 2
+initd,blame,a,b,--bundle|status 2
+initd,replay,a,b,--env,A|status 2
+initd,replay,a,b,--env,1=2|status 2
+initd,check,a,--env,A=1|status 2
+initd,lint,a,--allow,crash-loops|status 2
+initd,compile,a|status 2
+initd,show|status 2
+initd,chek,a|status 2
+initd,a.bundle|status 2
+initd,--fast|status 2
+initd,check,--fast,a|status 2
+initd,--help|status 0
+initd,--version|status 0
+";
 
-static ASKED: [Case; 18] = [
-    (&["initd"], Wanted::Bundle),
-    (
-        &["initd", "check", "jobs"],
-        Wanted::Check {
-            dir: "jobs",
-            explain: false,
-        },
-    ),
-    (
-        &["initd", "check", "--", "-x"],
-        Wanted::Check {
-            dir: "-x",
-            explain: false,
-        },
-    ),
-    (
-        &["initd", "check", "jobs", "--explain"],
-        Wanted::Check {
-            dir: "jobs",
-            explain: true,
-        },
-    ),
-    (
-        &["initd", "check", "jobs", "--against", "jobs.image"],
-        Wanted::Compare {
-            dir: "jobs",
-            other: "jobs.image",
-        },
-    ),
-    (
-        &["initd", "replay", "jobs/", "a script"],
-        Wanted::Replay {
-            source: "jobs/",
-            script: "a script",
-            one: None,
-            count: 0,
-        },
-    ),
-    (
-        &["initd", "replay", "check", "replay"],
-        Wanted::Replay {
-            source: "check",
-            script: "replay",
-            one: None,
-            count: 0,
-        },
-    ),
-    (
-        &[
-            "initd", "replay", "a", "b", "--env", "A=1", "--env", "B=x=y", "--env", "A=",
-        ],
-        Wanted::Replay {
-            source: "a",
-            script: "b",
-            one: Some(("B", "x=y")),
-            count: 2,
-        },
-    ),
-    (
-        &["initd", "replay", "--bundle", "a", "--env", "A=1"],
-        Wanted::ReplayFile {
-            bundle: "a",
-            count: 1,
-        },
-    ),
-    (
-        &["initd", "chart", "jobs", "a record"],
-        Wanted::View {
-            view: View::Chart,
-            source: "jobs",
-            log: "a record",
-        },
-    ),
-    (
-        &["initd", "blame", "a record", "--bundle"],
-        Wanted::ViewFile {
-            view: View::Blame,
-            bundle: "a record",
-        },
-    ),
-    (
-        &["initd", "lint", "jobs"],
-        Wanted::Lint {
-            dir: "jobs",
-            left_out: &[],
-            outside: &[],
-        },
-    ),
-    (
-        &[
-            "initd",
-            "lint",
-            "--allow",
-            "crash-loop",
-            "--event",
-            "up",
-            "jobs",
-            "--allow",
-            "never-stopped",
-            "--event",
-            "up down",
-        ],
-        Wanted::Lint {
-            dir: "jobs",
-            left_out: &[Kind::CrashLoop, Kind::NeverStopped],
-            outside: &["up", "up down"],
-        },
-    ),
-    (
-        &["initd", "compile", "jobs", "jobs.image"],
-        Wanted::Compile {
-            dir: "jobs",
-            image: "jobs.image",
-        },
-    ),
-    (
-        &["initd", "show", "jobs.image"],
-        Wanted::Show {
-            image: "jobs.image",
-        },
-    ),
-    (
-        &[
-            "initd",
-            "run",
-            "jobs.image",
-            "--verbose",
-            "s",
-            "--record",
-            "r",
-            "--rounds",
-            "3",
-        ],
-        Wanted::Run {
-            source: "jobs.image",
-            socket: "s",
-            rounds: Rounds {
-                count: 3,
-                most_pause: 10,
-                client_timeout: 60,
-            },
-            options: ReportOptions {
-                verbose: true,
-                quiet: false,
-                tell: None,
-                log: Some("r"),
-                over: false,
-            },
-        },
-    ),
-    (
-        &["initd", "run", "jobs"],
-        Wanted::Run {
-            source: "jobs",
-            socket: "/run/initd.socket",
-            rounds: Rounds {
-                count: 4_294_967_295,
-                most_pause: 10,
-                client_timeout: 60,
-            },
-            options: ReportOptions {
-                verbose: false,
-                quiet: false,
-                tell: None,
-                log: None,
-                over: false,
-            },
-        },
-    ),
-    (
-        &[
-            "initd",
-            "run",
-            "--quiet",
-            "jobs",
-            "s",
-            "--tell=t",
-            "--record-over",
-            "--pause",
-            "0",
-            "--client-timeout=1",
-        ],
-        Wanted::Run {
-            source: "jobs",
-            socket: "s",
-            rounds: Rounds {
-                count: 4_294_967_295,
-                most_pause: 0,
-                client_timeout: 1,
-            },
-            options: ReportOptions {
-                verbose: false,
-                quiet: true,
-                tell: Some("t"),
-                log: None,
-                over: true,
-            },
-        },
-    ),
-];
-
-static REFUSED: [Case; 22] = [
-    (&["initd", "check"], Wanted::Status(2)),
-    (&["initd", "check", "a", "b"], Wanted::Status(2)),
-    (&["initd", "check", "a", "--against"], Wanted::Status(2)),
-    (
-        &["initd", "check", "--explain", "a", "--against", "b"],
-        Wanted::Status(2),
-    ),
-    (&["initd", "replay", "a"], Wanted::Status(2)),
-    (&["initd", "replay", "a", "b", "c"], Wanted::Status(2)),
-    (
-        &["initd", "replay", "--bundle", "a", "b"],
-        Wanted::Status(2),
-    ),
-    (&["initd", "chart", "a"], Wanted::Status(2)),
-    (&["initd", "blame", "a", "b", "--bundle"], Wanted::Status(2)),
-    (
-        &["initd", "replay", "a", "b", "--env", "A"],
-        Wanted::Status(2),
-    ),
-    (
-        &["initd", "replay", "a", "b", "--env", "1=2"],
-        Wanted::Status(2),
-    ),
-    (&["initd", "check", "a", "--env", "A=1"], Wanted::Status(2)),
-    (
-        &["initd", "lint", "a", "--allow", "crash-loops"],
-        Wanted::Status(2),
-    ),
-    (&["initd", "compile", "a"], Wanted::Status(2)),
-    (&["initd", "show"], Wanted::Status(2)),
-    (&["initd", "chek", "a"], Wanted::Status(2)),
-    (&["initd", "a.bundle"], Wanted::Status(2)),
-    (&["initd", "--fast"], Wanted::Status(2)),
-    (&["initd", "check", "--fast", "a"], Wanted::Status(2)),
-    (&["initd", "--help"], Wanted::Status(0)),
-    (&["initd", "--version"], Wanted::Status(0)),
-    (&["initd", "--version"], Wanted::Text("initd 0.1.0\n")),
-];
-
-fn strings(alloc: Global, words: &[&str]) -> Result<Vec<String>, AllocError> {
-    let mut strings: Vec<String> = Vec::new(alloc);
-    for word in words {
-        strings
-            .push(String::from_str(alloc, *word)?)
-            .map_err(AllocError::from)?;
+fn push_words(alloc: Global, words: &mut Vec<String>, line: &str) -> Result<(), AllocError> {
+    for word in line.split(',') {
+        let word = String::from_str(alloc, word)?;
+        words.push(word).map_err(AllocError::from)?;
     }
-    Ok(strings)
+    Ok(())
 }
 
-fn are_texts(texts: &[Text], wanted: &[&str]) -> bool {
-    texts.len() == wanted.len()
-        && texts
-            .iter()
-            .zip(wanted.iter())
-            .all(|(text, word)| text.is(*word))
-}
-
-fn has_variable(base: &Env, one: &Option<(&str, &str)>) -> bool {
-    match one {
-        Some((key, value)) => base.get(*key) == Some(*value),
-        None => true,
+fn kind_of(view: View, is_bundle: bool) -> &'static str {
+    match view {
+        View::Chart if is_bundle => "chart a bundle",
+        View::Chart => "chart",
+        View::Blame if is_bundle => "blame a bundle",
+        View::Blame => "blame",
     }
 }
 
-fn is_wanted(asked: &Invocation, wanted: &Wanted) -> bool {
-    match (asked, wanted) {
-        (Invocation::Bundle, Wanted::Bundle) => true,
-        (Invocation::Check { dir, explain }, Wanted::Check { dir: d, explain: e }) => {
-            *dir == *d && *explain == *e
-        }
-        (Invocation::Compare { dir, other }, Wanted::Compare { dir: d, other: o }) => {
-            *dir == *d && *other == *o
-        }
-        (
-            Invocation::Lint {
-                dir,
-                left_out,
-                outside,
-            },
-            Wanted::Lint {
-                dir: d,
-                left_out: kinds,
-                outside: events,
-            },
-        ) => *dir == *d && left_out.as_slice() == *kinds && are_texts(outside.as_slice(), events),
-        (Invocation::Compile { dir, image }, Wanted::Compile { dir: d, image: i }) => {
-            *dir == *d && *image == *i
-        }
-        (Invocation::Show { image }, Wanted::Show { image: i }) => *image == *i,
-        (
-            Invocation::Replay {
-                source,
-                script,
-                base,
-            },
-            Wanted::Replay {
-                source: s,
-                script: t,
-                one,
-                count,
-            },
-        ) => *source == *s && *script == *t && base.len() == *count && has_variable(base, one),
-        (Invocation::ReplayFile { bundle, base }, Wanted::ReplayFile { bundle: b, count }) => {
-            *bundle == *b && base.len() == *count
-        }
-        (
-            Invocation::View { view, source, log },
-            Wanted::View {
-                view: v,
-                source: s,
-                log: l,
-            },
-        ) => *view == *v && *source == *s && *log == *l,
-        (Invocation::ViewFile { view, bundle }, Wanted::ViewFile { view: v, bundle: b }) => {
-            *view == *v && *bundle == *b
-        }
-        (
-            Invocation::Run {
-                source,
-                socket,
-                rounds,
-                options,
-            },
-            Wanted::Run {
-                source: s,
-                socket: p,
-                rounds: r,
-                options: t,
-            },
-        ) => *source == *s && *socket == *p && *rounds == *r && *options == *t,
-        _ => false,
+// What is asked for, and the first two things that it names.
+fn parts<'a>(asked: &Invocation<'a>) -> (&'static str, &'a str, &'a str) {
+    match asked {
+        Invocation::Bundle => ("bundle", "", ""),
+        Invocation::Check { dir, explain } => (
+            if *explain { "explain" } else { "check" },
+            *dir,
+            "",
+        ),
+        Invocation::Compare { dir, other } => ("compare", *dir, *other),
+        Invocation::Graph { dir } => ("graph", *dir, ""),
+        Invocation::Lint { dir, .. } => ("lint", *dir, ""),
+        Invocation::Compile { dir, image } => ("compile", *dir, *image),
+        Invocation::Show { image } => ("show", *image, ""),
+        Invocation::Replay { source, script, .. } => ("replay", *source, *script),
+        Invocation::ReplayFile { bundle, .. } => ("replay a bundle", *bundle, ""),
+        Invocation::View { view, source, log } => (kind_of(*view, false), *source, *log),
+        Invocation::ViewFile { view, bundle } => (kind_of(*view, true), *bundle, ""),
+        Invocation::Run { source, socket, .. } => ("run", *source, *socket),
     }
 }
 
-fn asks(alloc: Global, words: &[String], wanted: &Wanted) -> bool {
-    match parse_args(alloc, words) {
-        Ok(asked) => {
-            let is = is_wanted(&asked, wanted);
-            drop(asked);
-            is
+fn push_variables(out: &mut String, base: &Env) -> Result<(), AllocError> {
+    for at in 0..base.len() {
+        let (key, value) = base.at(at);
+        write!(out, ",{key}={value}")?;
+    }
+    Ok(())
+}
+
+fn push_kinds(out: &mut String, left_out: &[Kind]) -> Result<(), AllocError> {
+    for kind in left_out {
+        out.push_str(match kind {
+            Kind::CrashLoop => ",without crash-loop",
+            Kind::NeverStopped => ",without never-stopped",
+            _ => ",without another kind",
+        })?;
+    }
+    Ok(())
+}
+
+fn push_events(out: &mut String, outside: &[Text]) -> Result<(), AllocError> {
+    for event in outside {
+        out.push_str(",")?;
+        out.push_str(event.as_str())?;
+    }
+    Ok(())
+}
+
+fn push_path(out: &mut String, before: &str, path: Option<&str>) -> Result<(), AllocError> {
+    if let Some(path) = path {
+        out.push_str(before)?;
+        out.push_str(path)?;
+    }
+    Ok(())
+}
+
+fn push_options(out: &mut String, options: &ReportOptions) -> Result<(), AllocError> {
+    out.push_str(if options.verbose { ",verbose" } else { "" })?;
+    out.push_str(if options.quiet { ",quiet" } else { "" })?;
+    push_path(out, ",tell ", options.tell)?;
+    push_path(out, ",record ", options.log)?;
+    out.push_str(if options.over { ",over" } else { "" })
+}
+
+fn push_rounds(out: &mut String, rounds: Rounds) -> Result<(), AllocError> {
+    let Rounds {
+        count,
+        most_pause,
+        client_timeout,
+    } = rounds;
+    write!(out, ",{count} rounds,{most_pause} ms,{client_timeout} s")
+}
+
+fn push_rest(out: &mut String, asked: &Invocation) -> Result<(), AllocError> {
+    match asked {
+        Invocation::Replay { base, .. } => push_variables(out, base),
+        Invocation::ReplayFile { base, .. } => push_variables(out, base),
+        Invocation::Lint {
+            left_out,
+            outside,
+            ..
+        } => {
+            push_kinds(out, left_out.as_slice())?;
+            push_events(out, outside.as_slice())
         }
-        Err(error) => {
-            drop(error);
-            false
+        Invocation::Run {
+            rounds,
+            options,
+            ..
+        } => {
+            push_options(out, options)?;
+            push_rounds(out, *rounds)
         }
+        _ => Ok(()),
     }
 }
 
-// The status of a command line that is refused.
-fn refusal(rt: &HostRuntime, words: &[String]) -> Option<u8> {
+// What is asked for, the first two things that it names, and what else it has.
+fn push_asked(out: &mut String, asked: &Invocation) -> Result<(), AllocError> {
+    let (kind, first, second) = parts(asked);
+    write!(out, "{kind},{first},{second}")?;
+    push_rest(out, asked)
+}
+
+// Writes what a command line comes to.
+fn push_outcome(rt: &HostRuntime, out: &mut String, words: &[String]) -> Result<(), AllocError> {
     match parse_args(rt.alloc(), words) {
-        Ok(read) => {
-            drop(read);
-            None
+        Ok(asked) => {
+            let pushed = push_asked(out, &asked);
+            drop(asked);
+            pushed
         }
         Err(error) => {
             let status = print_refusal(rt, &error).number();
             drop(error);
-            Some(status)
+            write!(out, "status {status}")
         }
     }
 }
 
-// The text of a command line that is refused.
-fn refusal_text(alloc: Global, words: &[String]) -> Result<Option<String>, AllocError> {
-    match parse_args(alloc, words) {
-        Ok(read) => {
-            drop(read);
-            Ok(None)
-        }
-        Err(error) => {
-            let text = format!(in alloc; "{error}");
-            drop(error);
-            Ok(Some(text?))
-        }
-    }
+fn comes_to(rt: &HostRuntime, words: &[String], wanted: &str) -> Result<bool, AllocError> {
+    let mut outcome = String::new(rt.alloc());
+    let pushed = push_outcome(rt, &mut outcome, words);
+    let is_so = outcome.as_str() == wanted;
+    drop(outcome);
+    pushed?;
+    Ok(is_so)
 }
 
-fn has_text(alloc: Global, words: &[String], wanted: &str) -> Result<bool, AllocError> {
-    match refusal_text(alloc, words)? {
-        Some(text) => Ok(text.as_str() == wanted),
-        None => Ok(false),
-    }
+fn holds(rt: &HostRuntime, row: &str) -> Result<bool, AllocError> {
+    let Some((line, wanted)) = row.split_once('|') else {
+        return Ok(false);
+    };
+    let mut words = Vec::new(rt.alloc());
+    let is_so = match push_words(rt.alloc(), &mut words, line) {
+        Ok(()) => comes_to(rt, words.as_slice(), wanted),
+        Err(refused) => Err(refused),
+    };
+    drop(words);
+    is_so
 }
 
-fn gives(rt: &HostRuntime, words: &[String], wanted: &Wanted) -> Result<bool, AllocError> {
-    match wanted {
-        Wanted::Status(status) => Ok(refusal(rt, words) == Some(*status)),
-        Wanted::Text(text) => has_text(rt.alloc(), words, text),
-        _ => Ok(asks(rt.alloc(), words, wanted)),
-    }
-}
-
-fn is_case(rt: &HostRuntime, case: &Case) -> Result<bool, AllocError> {
-    let words = strings(rt.alloc(), case.0)?;
-    gives(rt, words.as_slice(), &case.1)
-}
-
-// The place of the first case that gives something else.
-fn first_other(rt: &HostRuntime, cases: &[Case]) -> Result<Option<usize>, AllocError> {
-    for (place, case) in cases.iter().enumerate() {
-        if !is_case(rt, case)? {
-            return Ok(Some(place));
+fn check(rt: &HostRuntime, rows: &'static str) -> Result<(), Fail> {
+    for row in rows.lines() {
+        if !holds(rt, row)? {
+            return Err(Fail::from(row));
         }
     }
-    Ok(None)
-}
-
-#[test]
-fn words_ask(rt: HostRuntime) -> Result<(), Fail> {
-    assert_eq!(rt; first_other(&rt, &ASKED)?, None);
     Ok(())
 }
 
 #[test]
+fn words_ask(rt: HostRuntime) -> Result<(), Fail> {
+    check(&rt, ASKED)
+}
+
+fn is_version(alloc: Global, words: &[String]) -> Result<bool, AllocError> {
+    match parse_args(alloc, words) {
+        Ok(asked) => {
+            drop(asked);
+            Ok(false)
+        }
+        Err(error) => {
+            let text = format!(in alloc; "{error}");
+            drop(error);
+            Ok(text?.as_str() == "initd 0.1.0\n")
+        }
+    }
+}
+
+fn has_version(alloc: Global) -> Result<bool, AllocError> {
+    let mut words = Vec::new(alloc);
+    let is_version = match push_words(alloc, &mut words, "initd,--version") {
+        Ok(()) => is_version(alloc, words.as_slice()),
+        Err(refused) => Err(refused),
+    };
+    drop(words);
+    is_version
+}
+
+#[test]
 fn words_are_refused(rt: HostRuntime) -> Result<(), Fail> {
-    assert_eq!(rt; first_other(&rt, &REFUSED)?, None);
+    check(&rt, REFUSED)?;
+    assert!(rt; has_version(rt.alloc())?);
     Ok(())
 }
