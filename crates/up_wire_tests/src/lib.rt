@@ -12,6 +12,4 @@ mod statuses;
 #[cfg(test)]
 mod streams;
 #[cfg(test)]
-mod tables;
-#[cfg(test)]
 mod words;

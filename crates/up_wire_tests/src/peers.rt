@@ -1,6 +1,5 @@
 //! The client against peers: shells at the other end of a socket, and a stream that never has an answer.
 use crate::frames::START;
-use crate::tables::{expect, fields};
 use std::alloc::{AllocError, Global};
 use std::io;
 use std::io::{Read, Write};
@@ -12,27 +11,61 @@ use up_client::run;
 use up_client::talk::{MAX_READS, TalkFault, talk};
 use up_model::Answer;
 
-// In each row what a shell runs once it has read the request, its input and its output being the socket; and what the client hears: an answer
-// that is good or not with its text, or that the peer is lost.
-const PEERS: &str = r#"# A peer that answers at once.
-printf '\000\000\000\003\000ok'|good|ok
-# A peer that fails the request.
-printf '\000\000\000\007\001failed'|failed|failed
-# A peer that answers late.
-sleep 0.3; printf '\000\000\000\003\000ok'|good|ok
-# A peer that answers in single bytes.
-for b in 000 000 000 003 000 157 153; do printf "\\$b"; sleep 0.01; done|good|ok
-# A peer that answers twice.
-printf '\000\000\000\002\000a\000\000\000\002\000b'|good|a
-# A peer that closes early.
-printf '\000\000\000\003\000o'|lost|
-# A peer that says nothing and closes.
-true|lost|
-# A peer that sends rubbish.
-printf 'rubbish'|lost|
-# A peer whose text is no text.
-printf '\000\000\000\002\000\377'|lost|
-"#;
+struct Peer {
+    name: &'static str,
+    // What the shell runs once it has read the request; its input and its output are the socket.
+    line: &'static str,
+    // Whether the answer is a good one, and its text.
+    answer: Result<(bool, &'static str), TalkFault>,
+}
+
+const PEERS: &'static [Peer] = &[
+    Peer {
+        name: "a peer that answers at once",
+        line: "printf '\\000\\000\\000\\003\\000ok'",
+        answer: Ok((true, "ok")),
+    },
+    Peer {
+        name: "a peer that fails the request",
+        line: "printf '\\000\\000\\000\\007\\001failed'",
+        answer: Ok((false, "failed")),
+    },
+    Peer {
+        name: "a peer that answers late",
+        line: "sleep 0.3; printf '\\000\\000\\000\\003\\000ok'",
+        answer: Ok((true, "ok")),
+    },
+    Peer {
+        name: "a peer that answers in single bytes",
+        line: "for b in 000 000 000 003 000 157 153; do printf \"\\\\$b\"; sleep 0.01; done",
+        answer: Ok((true, "ok")),
+    },
+    Peer {
+        name: "a peer that answers twice",
+        line: "printf '\\000\\000\\000\\002\\000a\\000\\000\\000\\002\\000b'",
+        answer: Ok((true, "a")),
+    },
+    Peer {
+        name: "a peer that closes early",
+        line: "printf '\\000\\000\\000\\003\\000o'",
+        answer: Err(TalkFault::Lost),
+    },
+    Peer {
+        name: "a peer that says nothing and closes",
+        line: "true",
+        answer: Err(TalkFault::Lost),
+    },
+    Peer {
+        name: "a peer that sends rubbish",
+        line: "printf 'rubbish'",
+        answer: Err(TalkFault::Lost),
+    },
+    Peer {
+        name: "a peer whose text is no text",
+        line: "printf '\\000\\000\\000\\002\\000\\377'",
+        answer: Err(TalkFault::Lost),
+    },
+];
 
 fn line_of(alloc: Global, line: &str) -> Result<String, AllocError> {
     format!(in alloc; "head -c 11 >/dev/null; {line}")
@@ -74,52 +107,47 @@ fn peer_of(rt: &HostRuntime, line: &str) -> Result<UnixStream, Fail> {
     }
 }
 
-fn is_heard(answer: &Result<Answer, TalkFault>, outcome: &str, text: &str) -> bool {
-    match answer {
-        Ok(answer) => {
-            let is_good = outcome == "good";
-            answer.ok == is_good && (is_good || outcome == "failed") && answer.text.is(text)
-        }
-        Err(fault) => outcome == "lost" && *fault == TalkFault::Lost,
-    }
+fn is_expected(
+    answer: Result<Answer, TalkFault>,
+    expected: &Result<(bool, &'static str), TalkFault>,
+) -> bool {
+    let is_expected = match (&answer, expected) {
+        (Ok(answer), Ok((ok, text))) => answer.ok == *ok && answer.text.is(text),
+        (Err(fault), Err(other)) => fault == other,
+        _ => false,
+    };
+    drop(answer);
+    is_expected
 }
 
-fn answer_of(rt: &HostRuntime, line: &str) -> Result<Result<Answer, TalkFault>, Fail> {
+fn answers(rt: &HostRuntime, line: &str, peer: &Peer) -> Result<bool, Fail> {
     let mut stream = peer_of(rt, line)?;
     let answer = talk(rt.alloc(), &mut stream, START);
     drop(stream);
-    Ok(answer)
+    Ok(is_expected(answer, &peer.answer))
 }
 
-fn hears(rt: &HostRuntime, line: &str, outcome: &str, text: &str) -> Result<bool, Fail> {
-    let answer = answer_of(rt, line)?;
-    let is_heard = is_heard(&answer, outcome, text);
-    drop(answer);
-    Ok(is_heard)
-}
-
-fn holds(rt: &HostRuntime, row: &str) -> Result<bool, Fail> {
-    let Some((line, outcome, text)) = fields(row) else {
-        return Ok(row.starts_with('#'));
-    };
-    let line = line_of(rt.alloc(), line)?;
-    let hears = hears(rt, line.as_str(), outcome, text);
+fn try_peer(rt: &HostRuntime, peer: &Peer) -> Result<(), Fail> {
+    let line = line_of(rt.alloc(), peer.line)?;
+    let answered = answers(rt, line.as_str(), peer);
     drop(line);
-    hears
+    if answered? {
+        Ok(())
+    } else {
+        Err(Fail::from(peer.name))
+    }
 }
 
-fn check(rt: &HostRuntime, rows: &'static str) -> Result<(), Fail> {
-    for row in rows.lines() {
-        if !holds(rt, row)? {
-            return Err(Fail::from(row));
-        }
+fn try_peers(rt: &HostRuntime, peers: &[Peer]) -> Result<(), Fail> {
+    for peer in peers {
+        try_peer(rt, peer)?;
     }
     Ok(())
 }
 
 #[test]
 fn peers_are_heard_or_lost(rt: HostRuntime) -> Result<(), Fail> {
-    check(&rt, PEERS)
+    try_peers(&rt, PEERS)
 }
 
 // A peer that takes what is written and never has an answer.
@@ -145,62 +173,89 @@ impl Write for Silent {
     }
 }
 
-fn is_lost(answer: Result<Answer, TalkFault>) -> bool {
-    let is_lost = is_heard(&answer, "lost", "");
-    drop(answer);
-    is_lost
-}
-
 #[test]
 fn a_peer_that_never_answers_is_given_up(rt: HostRuntime) -> Result<(), Fail> {
     let mut silent = Silent { reads: 0 };
     let answer = talk(rt.alloc(), &mut silent, START);
-    expect("it is lost", is_lost(answer))?;
-    expect("the reads", silent.reads == MAX_READS)
+    assert!(rt; is_expected(answer, &Err(TalkFault::Lost)) && silent.reads == MAX_READS);
+    Ok(())
 }
 
-// In each row the client's status, and its words.
-const LINES: &str = "\
-0|initctl
-0|initctl --version
-0|initctl --help
-0|initctl start --help
-2|initctl --socket /no/such/socket
-2|initctl --socket /no/such/socket begin a
-2|initctl --socket /no/such/socket start
-2|initctl --socket /no/such/socket status --no-wait a
-1|initctl --socket /no/such/socket start a(b
-1|initctl --socket /no/such/socket version
-";
+struct Line {
+    words: &'static [&'static str],
+    status: u8,
+}
 
-fn push_words(alloc: Global, line: &str, words: &mut Vec<String>) -> Result<(), AllocError> {
-    for word in line.split(' ') {
-        words.push(String::from_str(alloc, word)?)?;
+const LINES: &'static [Line] = &[
+    Line {
+        words: &["initctl"],
+        status: 0,
+    },
+    Line {
+        words: &["initctl", "--version"],
+        status: 0,
+    },
+    Line {
+        words: &["initctl", "--help"],
+        status: 0,
+    },
+    Line {
+        words: &["initctl", "start", "--help"],
+        status: 0,
+    },
+    Line {
+        words: &["initctl", "--socket", "/no/such/socket"],
+        status: 2,
+    },
+    Line {
+        words: &["initctl", "--socket", "/no/such/socket", "begin", "a"],
+        status: 2,
+    },
+    Line {
+        words: &["initctl", "--socket", "/no/such/socket", "start"],
+        status: 2,
+    },
+    Line {
+        words: &[
+            "initctl",
+            "--socket",
+            "/no/such/socket",
+            "status",
+            "--no-wait",
+            "a",
+        ],
+        status: 2,
+    },
+    Line {
+        words: &["initctl", "--socket", "/no/such/socket", "start", "a(b"],
+        status: 1,
+    },
+    Line {
+        words: &["initctl", "--socket", "/no/such/socket", "version"],
+        status: 1,
+    },
+];
+
+fn push_strings(alloc: Global, words: &[&str], all: &mut Vec<String>) -> Result<(), AllocError> {
+    for word in words {
+        all.push(String::from_str(alloc, *word)?)?;
     }
     Ok(())
 }
 
-// The client's status by the words of a line.
-fn status_of(rt: &HostRuntime, line: &str) -> Result<u8, AllocError> {
+fn ends_so(rt: &HostRuntime, line: &Line) -> Result<bool, AllocError> {
     let mut words = Vec::new(rt.alloc());
-    let pushed = push_words(rt.alloc(), line, &mut words);
+    let pushed = push_strings(rt.alloc(), line.words, &mut words);
     let status = run(rt, &words).number();
     drop(words);
     pushed?;
-    Ok(status)
+    Ok(status == line.status)
 }
 
-fn ends_so(rt: &HostRuntime, row: &str) -> Result<bool, Fail> {
-    match row.split_once('|') {
-        Some((status, line)) => Ok(status.parse::<u8>() == Ok(status_of(rt, line)?)),
-        None => Ok(false),
-    }
-}
-
-fn check_lines(rt: &HostRuntime, lines: &'static str) -> Result<(), Fail> {
-    for line in lines.lines() {
+fn check_lines(rt: &HostRuntime, lines: &[Line]) -> Result<(), Fail> {
+    for (place, line) in lines.iter().enumerate() {
         if !ends_so(rt, line)? {
-            return Err(Fail::from(line));
+            return Err(Fail::from(place));
         }
     }
     Ok(())

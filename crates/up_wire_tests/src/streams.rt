@@ -1,6 +1,5 @@
 //! Streams that are cut, and frames of which a byte is altered.
-use crate::frames::{START, STATUS};
-use crate::tables::expect;
+use crate::frames::{START, STATUS, expect};
 use std::alloc::Global;
 use std::test::Fail;
 use up_model::{Answer, Request};
