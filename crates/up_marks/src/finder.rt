@@ -2,12 +2,12 @@
 ghost use Rattle.std.specs.Prelude.{◌≡◌, ◌≤◌, true, false, not, IfOk, IfSome, IsTrue, Some, length};
 ghost use Rattle.std.specs.Cmp.Lexicographic.{slice_cmp};
 ghost use Rattle.std.specs.List.{list_all};
-ghost use Rattle.std.specs.List.Sorted.{IsPartitionPoint, IsPermutation};
+ghost use Rattle.std.specs.List.Sorted.{IsPartitionPoint, IsPartitionedBy, IsPermutation};
 ghost use Rattle.std.specs.Ordering.{nat_cmp, ordering_then};
 ghost use Rattle.up_conf.specs.Order.{is_below};
 ghost use Rattle.up_image.specs.Index.{named, places_of};
 ghost use Rattle.up_marks.specs.Finding as finding;
-ghost use Rattle.up_marks.specs.Finding.{AreOrdered, Finds, IsLeastFrom, IsNextJob, first_wanting, has_wanted, has_wanting, is_before, is_early, key_of, lesser, names};
+ghost use Rattle.up_marks.specs.Finding.{AreOrdered, Finds, IsLeastFrom, IsNextJob, first_wanting, has_wanted, has_wanting, is_early, key_of, lesser, names};
 ghost use Rattle.up_marks.specs.Ruling.{admits};
 
 use crate::ruling::admits;
@@ -123,14 +123,12 @@ fn is_early(leaf: &Wanted, value: &str, job: usize) -> bool
 
 // The number of leaves of one event before those that want this value of it and aren't of earlier jobs. Often there are none, as before
 // those that want no value, which the first one tells.
-fn before_len(leaves: &[Wanted], name: &Name, value: &str, job: usize) -> usize
-    requires ordered { AreOrdered leaves.now }
-    requires named { list_all (names name.now) leaves.now ≡ true }
-    ensures before { IsPartitionPoint (λ leaf. is_before (key_of leaf) (name.now, value.now, job) ≡ true)
-        (λ leaf. is_before (key_of leaf) (name.now, value.now, job) ≡ false) leaves.now result }
+fn before_len(leaves: &[Wanted], value: &str, job: usize) -> usize
+    requires { IsPartitionedBy (is_early value.now job) leaves.now }
+    ensures early { IsPartitionPoint (λ leaf. is_early value.now job leaf ≡ true)
+        (λ leaf. is_early value.now job leaf ≡ false) leaves.now result }
     ensures within { result ≤ length leaves.now }
 {
-    let _name = name;
     match leaves.first() {
         Some(first) if !is_early(first, value, job) => 0,
         _ => leaves.partition_point(|leaf| is_early(leaf, value, job)),
@@ -171,7 +169,7 @@ fn next_wanting(
     requires named { list_all (names event.now.name) leaves.now ≡ true }
     ensures { IsLeastFrom (has_wanting (admits jobs.now event.now) event.now.name value.now leaves.now) from result }
 {
-    let (_, later) = leaves.split_at(before_len(leaves, &event.name, value, from));
+    let (_, later) = leaves.split_at(before_len(leaves, value, from));
     first_wanting(later, jobs, event, value)
 }
 

@@ -164,13 +164,6 @@ impl Index {
     {
         leaves_of(self.places(name), job, start)
     }
-
-    /// Those of an expression and later ones. Takes no memory.
-    pub fn leaves_from(&self, name: &Name, job: u16, start: bool) -> &[Place]
-        ensures { result.now ≡ from_expression job start (named name.now self.now) }
-    {
-        later_of(self.places(name), job, start)
-    }
 }
 
 /// The leaves of a file's `stop on` that name an event, from left to right. Takes no memory.
