@@ -88,7 +88,8 @@ pub(crate) fn late_host(
 }
 
 // What a client says at one read. The answer to `reload`, which is refused at once as there is no such job, has 26 bytes; `half` and `rest` are
-// that request in two pieces. The length of `too-long` is over the limit, and `end` ends the input.
+// that request in two pieces. The length of `too-long` is over the limit, and `end` ends the input. Other words are said as they are, so a word
+// that is spelled wrong is heard.
 const PIECES: &str = "\
 start|\0\0\0\x07\x01\0\0\x01a\0\0
 stop|\0\0\0\x07\x02\0\0\x01a\0\0
@@ -98,20 +99,19 @@ half|\0\0\0\x0e\x07
 rest|\0\0\x08database\0\0
 reload-configuration|\0\0\0\x06\x08\0\0\0\0\0
 too-long|\0\x01\0\x01
-abcde|abcde
 end|
 ";
 
-// The piece of this name. Other words say nothing.
-fn piece_of(name: &str) -> Option<&'static [u8]> {
+// What is said by this word.
+fn piece_of(word: &str) -> &[u8] {
     for row in PIECES.lines() {
-        if let Some((word, piece)) = row.split_once('|') {
-            if word == name {
-                return Some(piece.as_bytes());
+        if let Some((name, piece)) = row.split_once('|') {
+            if name == word {
+                return piece.as_bytes();
             }
         }
     }
-    None
+    word.as_bytes()
 }
 
 fn push_piece(
@@ -119,13 +119,11 @@ fn push_piece(
     pieces: &mut Vec<Option<Items<u8>>>,
     word: &str,
 ) -> Result<(), AllocError> {
-    match piece_of(word) {
-        Some(bytes) => {
-            let bytes = Vec::from_slice(alloc, bytes)?;
-            push(pieces, Some(Items::new(bytes)))
-        }
-        None => push(pieces, None),
+    if word == "nothing" {
+        return push(pieces, None);
     }
+    let bytes = Vec::from_slice(alloc, piece_of(word))?;
+    push(pieces, Some(Items::new(bytes)))
 }
 
 fn push_pieces(

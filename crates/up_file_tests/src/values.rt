@@ -9,7 +9,8 @@ use up_stanza::{Exit, Setting, Signal, has_shell, is_shell};
 use up_text::env::{is_key, is_key_byte, is_key_start, is_value, split_pair};
 use up_text::{Text, as_text, is_name};
 
-// In each row, which ends with `||`, what a text may be, whether it is that, and the text. A pair has its two parts in place of `yes`.
+// In each row, which ends with `||`, what a text may be, whether it is that, and the text. A pair has its two parts in place of `yes`. The bytes
+// of each text are that text.
 const TEXTS: &'static str = "\
 key|yes|A||
 key|yes|_||
@@ -39,10 +40,6 @@ command for a shell|no|/sbin/getty 38400 tty1||
 command for a shell|yes|echo $HOME||
 command for a shell|yes|a | b||
 command for a shell|no|||
-bytes|yes|||
-bytes|yes|go||
-bytes|yes|a b||
-bytes|yes|\u{e9}||
 pair|A 1|A=1||
 pair|A 1=2|A=1=2||
 pair|A |A=||
@@ -58,16 +55,19 @@ fn is(kind: &str, answer: &str, text: &str) -> bool {
         "name" => is_name(text) == yes,
         "job event" => is_job_event(text) == yes,
         "command for a shell" => has_shell(text.as_bytes()) == yes,
-        "bytes" => as_text(text.as_bytes()) == Some(text),
         "pair" => split_pair(text) == answer.split_once(' '),
         _ => false,
     }
 }
 
+fn are_its_bytes(text: &str) -> bool {
+    as_text(text.as_bytes()) == Some(text)
+}
+
 fn check_texts(rows: &'static str) -> Result<(), Fail> {
     for row in rows.split_terminator("||\n") {
         let holds = match fields(row) {
-            Some((kind, answer, text)) => is(kind, answer, text),
+            Some((kind, answer, text)) => is(kind, answer, text) && are_its_bytes(text),
             None => false,
         };
         if !holds {

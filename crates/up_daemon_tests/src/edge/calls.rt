@@ -1,5 +1,5 @@
 //! Scripts: in each row a call of a host or of a door and its answer, between which is `|`. The answer of a call that fails is `fault`; a look or a
-//! pause, as `alone` and `wait`, has none.
+//! pause, as `alone` and `wait`, has none. A row whose call has no such name fails.
 //!
 //! The prover goes through each way out of a function, so a test is such a text, and one function goes through its rows.
 use crate::edge::orders::{order_in, shell, who};
@@ -181,10 +181,11 @@ fn is_recorded<H: Host>(host: &mut H, call: &str, told: &str) -> bool {
     match call {
         "entries" => is_number(told, host.happened().len() as u64),
         "faults" => is_number(told, host.faults()),
-        _ => {
+        "clear" => {
             host.clear_record();
             told == "cleared"
         }
+        _ => false,
     }
 }
 
@@ -227,7 +228,8 @@ fn is_done<H: Host>(
         "signal" => signals(rt.alloc(), host, *pid, rest, told),
         "stranger" => signals(rt.alloc(), host, 1, rest, told),
         "runs" => is_running(rt, *pid, rest),
-        _ => waits(rt, rest),
+        "wait" => waits(rt, rest),
+        _ => Ok(false),
     }
 }
 
@@ -277,10 +279,11 @@ fn is_shown<D: Door>(door: &mut D, buffer: &[u8], call: &str, told: &str) -> boo
         "buffer" => buffer == told.as_bytes(),
         "entries" => is_number(told, door.happened().len() as u64),
         "faults" => is_number(told, door.faults()),
-        _ => {
+        "clear" => {
             door.clear_record();
             told == "cleared"
         }
+        _ => false,
     }
 }
 
@@ -299,6 +302,11 @@ fn is_written<D: Door>(door: &mut D, client: u32, text: &str, told: &str) -> boo
     }
 }
 
+fn is_closed<D: Door>(door: &mut D, client: u32, told: &str) -> bool {
+    door.close(client);
+    told == "closed"
+}
+
 // A call about a client, whose number it names, and after it what is written.
 fn is_served<D: Door>(
     door: &mut D,
@@ -308,12 +316,9 @@ fn is_served<D: Door>(
     told: &str,
 ) -> bool {
     match call.split_once(' ') {
-        Some((_, text)) => is_written(door, client, text, told),
+        Some((word, text)) => word == "write" && is_written(door, client, text, told),
         None if call == "read" => is_read(door, buffer, client, told),
-        None => {
-            door.close(client);
-            told == "closed"
-        }
+        None => call == "close" && is_closed(door, client, told),
     }
 }
 
