@@ -1,11 +1,11 @@
-//! Copies of values, and the names of commands.
+//! Copies of inputs, and the names of commands.
 use crate::images::folders::table_of;
 use crate::text::{Pair, env_of};
 use std::alloc::{AllocError, Global};
 use std::test::Fail;
 use up_image::Table;
-use up_model::{Answer, Command, Event, How, Input, Loaded, Order, Output, Process, Request, Who};
-use up_text::{Env, Items, Name, Text, TextFault};
+use up_model::{Command, Event, How, Input, Loaded, Process, Request, Who};
+use up_text::{Env, Name, Text, TextFault};
 
 fn who(alloc: Global) -> Result<Who, TextFault> {
     let job = Name::new(alloc, "a")?;
@@ -205,132 +205,6 @@ fn check_inputs(alloc: Global) -> Result<(), Fail> {
 #[test]
 fn copies_of_inputs(rt: HostRuntime) -> Result<(), Fail> {
     check_inputs(rt.alloc())
-}
-
-fn argv(alloc: Global) -> Result<Items<Text>, AllocError> {
-    let word = Text::from_str(alloc, "/bin/d")?;
-    let mut argv = Vec::new(alloc);
-    match argv.push(word) {
-        Ok(()) => Ok(Items::new(argv)),
-        Err(refused) => {
-            drop(argv);
-            Err(refused.into())
-        }
-    }
-}
-
-fn order(alloc: Global) -> Result<Order, TextFault> {
-    Ok(Order {
-        who: who(alloc)?,
-        process: PROCESS,
-        argv: argv(alloc)?,
-        dir: Text::from_str(alloc, "/")?,
-        silent: true,
-        env: env_of(alloc, VARS)?,
-    })
-}
-
-fn is_order(order: &Order) -> bool {
-    is_who(&order.who)
-        && order.process == PROCESS
-        && matches!(order.argv.as_slice(), [word] if word.is("/bin/d"))
-        && order.dir.is("/")
-        && order.silent
-        && are_vars(&order.env)
-}
-
-fn answer(alloc: Global) -> Result<Answer, AllocError> {
-    let text = Text::from_str(alloc, "a stop/waiting\n")?;
-    Ok(Answer { ok: true, text })
-}
-
-fn is_answer(answer: &Answer) -> bool {
-    answer.ok && answer.text.is("a stop/waiting\n")
-}
-
-// One output of each kind.
-fn output(alloc: Global, kind: u8) -> Result<Output, TextFault> {
-    let made = match kind {
-        0 => Output::Spawn(order(alloc)?),
-        1 => Output::Signal {
-            who: who(alloc)?,
-            pid: 100,
-            signal: 15,
-        },
-        2 => Output::Emitted(event(alloc)?),
-        _ => Output::Reply {
-            id: 7,
-            answer: answer(alloc)?,
-        },
-    };
-    Ok(made)
-}
-
-// Whether it is the output of this kind.
-fn is_output(kind: u8, output: &Output) -> bool {
-    match output {
-        Output::Spawn(order) => kind == 0 && is_order(order),
-        Output::Signal { who, pid, signal } => {
-            kind == 1 && is_who(who) && *pid == 100 && *signal == 15
-        }
-        Output::Emitted(event) => kind == 2 && is_event(event),
-        Output::Reply { id, answer } => kind == 3 && *id == 7 && is_answer(answer),
-    }
-}
-
-fn is_answer_copy(copied: Result<Answer, AllocError>) -> bool {
-    match copied {
-        Ok(copied) => {
-            let is_answer = is_answer(&copied);
-            drop(copied);
-            is_answer
-        }
-        Err(_) => false,
-    }
-}
-
-fn answer_is_copied(output: &Output) -> bool {
-    match output {
-        Output::Reply { answer, .. } => is_answer_copy(answer.copy()),
-        _ => true,
-    }
-}
-
-fn is_output_copy(kind: u8, copied: Result<Output, AllocError>) -> bool {
-    match copied {
-        Ok(copied) => {
-            let is_copy = is_output(kind, &copied) && answer_is_copied(&copied);
-            drop(copied);
-            is_copy
-        }
-        Err(_) => false,
-    }
-}
-
-fn output_is_copied(alloc: Global, kind: u8) -> bool {
-    match output(alloc, kind) {
-        Ok(output) => {
-            let copied = output.copy(alloc);
-            drop(output);
-            is_output_copy(kind, copied)
-        }
-        Err(_) => false,
-    }
-}
-
-fn check_outputs(alloc: Global) -> Result<(), Fail> {
-    for kind in 0..4u8 {
-        if !output_is_copied(alloc, kind) {
-            return Err(Fail::from(kind));
-        }
-    }
-    Ok(())
-}
-
-// Outputs, and the answer that is a part of one.
-#[test]
-fn copies_of_outputs(rt: HostRuntime) -> Result<(), Fail> {
-    check_outputs(rt.alloc())
 }
 
 const COMMANDS: &'static [(Command, &'static str)] = &[
