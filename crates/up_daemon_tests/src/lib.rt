@@ -1,5 +1,5 @@
-//! The tests of `up_edge` and of the daemon's rounds, over their public interfaces: real children and sockets; hosts, doors and sources that play
-//! scripts, and that fail.
+//! The tests of `up_wire`, `up_client`, `up_edge` and the daemon's rounds, over their public interfaces: frames and words; real children and
+//! sockets; hosts, doors and sources that play scripts, and that fail.
 #![tactic(auto)]
 
 #[cfg(test)]
@@ -30,3 +30,5 @@ mod scripted;
 mod stage;
 #[cfg(test)]
 mod waiting;
+#[cfg(test)]
+mod wire;

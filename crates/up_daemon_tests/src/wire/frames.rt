@@ -1,4 +1,5 @@
 //! Frames, byte by byte.
+use crate::parts::expect;
 use std::alloc::Global;
 use std::test::Fail;
 use up_model::{Answer, Command, Request};
@@ -16,14 +17,6 @@ pub(crate) const TOO_LARGE: &'static [u8] = b"\0\x01\0\x01";
 
 /// A frame of an unknown command.
 pub(crate) const UNKNOWN: &'static [u8] = b"\0\0\0\x01\xff";
-
-/// Fails with the name of what should hold and doesn't.
-pub(crate) fn expect(name: &str, holds: bool) -> Result<(), Fail> {
-    if holds {
-        return Ok(());
-    }
-    Err(Fail::from(name))
-}
 
 fn is_start(requests: &[Request]) -> bool {
     match requests {

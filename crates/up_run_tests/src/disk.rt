@@ -1,9 +1,10 @@
 //! Checks and replays of folders on the disk.
-use crate::walk::{below, expect, make_file, scratch, text_of};
+mod failures;
+mod walk;
+
+use crate::disk::walk::{below, expect, make_file, scratch, text_of};
 use std::test::Fail;
 use std::{fs, io};
-use up_command::Invocation;
-use up_command::run_command::run_command;
 use up_disk::print::print;
 use up_disk::{check_dir, compile_dir, read_bytes, replay_dir, replay_image, replay_source};
 use up_model::ExitStatus;
@@ -192,38 +193,6 @@ fn what_is_printed_has_its_status(rt: HostRuntime) -> Result<(), Fail> {
         status: ExitStatus::Failed,
     };
     expect(print(&rt, Ok(made))?.number() == 1, "the status is 1", 0)
-}
-
-fn answers(rt: &HostRuntime, dir: &str) -> Result<bool, Fail> {
-    make_file(rt, dir, "a.conf", b"exec x\n")?;
-    make_file(rt, dir, "up.script", b"turn 0\n")?;
-    let script = below(rt, dir, "up.script")?;
-    let script = script.as_str();
-    let checked = run_command(
-        rt,
-        Invocation::Check {
-            dir,
-            explain: false,
-        },
-    )?;
-    let replayed = run_command(
-        rt,
-        Invocation::Replay {
-            source: dir,
-            script,
-            base: Env::new(rt.alloc()),
-        },
-    )?;
-    Ok(checked.number() == 0 && replayed.number() == 2)
-}
-
-// What is printed goes to the standard output of the tests.
-#[test]
-fn what_is_asked_for_is_done(rt: HostRuntime) -> Result<(), Fail> {
-    let dir = scratch(&rt, "asked")?;
-    expect(answers(&rt, dir.as_str())?, "the statuses are 0 and 2", 0)?;
-    fs::remove_dir_all(&rt, dir.as_str())?;
-    Ok(())
 }
 
 // The bytes of a script of empty lines, what its replay prints, and the status.
