@@ -1,4 +1,6 @@
 """What command lines of initd ask for: options in any order, values that look like options, options that come again, and lines that are refused."""
+import time
+
 from harness import check, initd_said, write
 
 JOB = "start on go\nexec /bin/d\n"
@@ -62,10 +64,18 @@ REFUSED = [
 ]
 
 
+def a_pause_that_is_left_out(work):
+    """Without `--pause` a pause grows to 10 milliseconds: 200 quiet rounds take 1.7 seconds, 0.2 at most 1 millisecond, and 13 at most 100."""
+    begun = time.monotonic()
+    ended = initd_said("run", "jobs", "quiet", "--rounds", "200", cwd=work)
+    check("initd run without --pause", (ended, 1.2 < time.monotonic() - begun < 8), (("", "", 0), True))
+
+
 def all_of(work):
     write(work, FILES)
     for line, wanted in ASKED:
         check(f"initd {line.replace(',', ' ')}", initd_said(*line.split(","), cwd=work), (wanted, "", 0))
+    a_pause_that_is_left_out(work)
     check("--record wrote a record, and --tell a file", [(work / name).is_file() for name in ("r", "t")], [True, True])
     for line in REFUSED:
         printed, said, status = initd_said(*line.split(","), cwd=work)
