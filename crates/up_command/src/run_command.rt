@@ -11,11 +11,11 @@ use std::net::Net;
 use std::process::Processes;
 use std::rt::{Clock, Files};
 use up_disk::print::print;
+use up_disk::replay::replay_bundle;
 use up_disk::{
     check_dir, compile_dir, explain_dir, graph_dir, replay_file, replay_source, show_image,
 };
 use up_model::ExitStatus;
-use up_replay::replay::replay_bundle;
 use up_run::run_source;
 use up_tools::{compare_dir, lint_dir, view_file, view_source};
 

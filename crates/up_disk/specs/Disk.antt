@@ -11,7 +11,7 @@ use Rattle.up_image.specs.Image.{IsImage}
 use Rattle.up_image.specs.Reading.{HasTable, ReadsImage, head_error}
 use Rattle.up_script.specs.Bundle.{files_of, lines_of}
 use Rattle.up_print.specs.Folders.{Checks, ChecksExplained, Graphs, image_refusal_line, prints, unusable}
-use Rattle.up_replay.specs.Replay.{Plays, Prints}
+use Rattle.up_disk.specs.Replay.{Plays, Prints}
 use Rattle.up_script.specs.declared.bundle.TheConstants.{MAX_BUNDLE}
 use Rattle.up_script.specs.Statements.{script_inputs}
 use Rattle.up_disk.specs.declared.walk.WalkError.TheVariants.{Unusable}

@@ -4,6 +4,7 @@ ghost use Rattle.up_disk.specs.Disk.{ChecksDir, ExplainsDir, GraphsDir, PlaysDir
 ghost use Rattle.up_disk.specs.Walk.{IsWalked};
 ghost use Rattle.up_script.specs.declared.bundle.TheConstants.{MAX_BUNDLE};
 
+use crate::replay::{play_bundle, render_folder};
 use crate::walk::{cannot_walk, read_file, walk};
 use crate::why::{say, say_error};
 use std::alloc::AllocError;
@@ -12,7 +13,6 @@ use std::rt::Files;
 use up_conf::Folder;
 use up_print::check::{check, check_explained, graph_folder};
 use up_print::{Printed, cannot_use};
-use up_replay::{play_bundle, render_folder};
 use up_script::bundle::MAX_BUNDLE;
 use up_script::read_inputs;
 use up_text::Env;

@@ -1,10 +1,10 @@
 //! Folders that are compiled, and those that are refused.
 use crate::conf::{add, add_numbered, folder_of};
-use crate::tables::is_printed;
 use std::alloc::{AllocError, Global};
 use std::test::Fail;
 use up_conf::{Folder, Report};
 use up_image::{CompileError, Table, compile};
+use up_text_tests::tables::is_printed;
 
 // Adds files with these paths, each with an `exec`.
 fn add_paths(alloc: Global, folder: &mut Folder, paths: &str) -> Result<(), AllocError> {

@@ -4,13 +4,13 @@ pub(crate) mod folders;
 pub(crate) mod jobs;
 mod limits;
 
-use crate::tables::{fields, is_number};
 use std::alloc::{AllocError, Global};
 use std::test::Fail;
 use up_conf::{Action, ConfFault, Folder, Process, Stanza, Stanzas, read_conf};
 use up_expr::{Condition, Root};
 use up_stanza::read_bytes;
 use up_text::{Items, Text, copy_texts};
+use up_text_tests::tables::{fields, is_number};
 
 // Adds a file to a folder.
 pub(crate) fn add(

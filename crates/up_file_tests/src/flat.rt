@@ -3,7 +3,6 @@ ghost use Rattle.std.specs.Prelude.{◌≡◌, [], IfOk};
 ghost use Rattle.up_expr.specs.Flat.{size};
 ghost use Rattle.up_expr.specs.Trees.{tree_of};
 
-use crate::expr::is_written;
 use crate::images::folders::table_of;
 use crate::images::holds;
 use std::alloc::{AllocError, Global};
@@ -11,6 +10,7 @@ use std::test::Fail;
 use up_expr::{Builder, Condition, Expr, Leaf, Node, Nodes, flatten};
 use up_image::Table;
 use up_text::{Items, Name, TextFault};
+use up_text_tests::written::is_written;
 
 fn leaf_of(alloc: Global, event: &str) -> Result<Leaf, TextFault> {
     let event = Name::new(alloc, event)?;

@@ -1,17 +1,13 @@
-//! The tests of the libraries that say what job files mean, over their public interfaces: `up_value`, `up_pattern`, `up_text`, `up_expr`,
-//! `up_stanza`, `up_conf`, `up_advice`, `up_image`, and the types of `up_model`; and of `up_event`, `up_marks` and the instances of `up_job`.
+//! The tests of the libraries that say what job files mean, over their public interfaces: `up_stanza`, `up_conf`, `up_image`, and the types of
+//! `up_model`; and of `up_event`, `up_marks` and the instances of `up_job`.
 #![tactic(auto)]
 
-#[cfg(test)]
-mod advice;
 #[cfg(test)]
 mod compile;
 #[cfg(test)]
 mod conf;
 #[cfg(test)]
 mod events;
-#[cfg(test)]
-mod expr;
 #[cfg(test)]
 mod flat;
 #[cfg(test)]
@@ -22,9 +18,5 @@ mod model;
 mod signals;
 #[cfg(test)]
 mod statuses;
-#[cfg(test)]
-mod tables;
-#[cfg(test)]
-mod text;
 #[cfg(test)]
 mod values;

@@ -1,11 +1,11 @@
 //! Copies of inputs, and the names of commands.
 use crate::images::folders::table_of;
-use crate::text::{Pair, env_of};
 use std::alloc::{AllocError, Global};
 use std::test::Fail;
 use up_image::Table;
 use up_model::{Command, Event, How, Input, Loaded, Process, Request, Who};
 use up_text::{Env, Name, Text, TextFault};
+use up_text_tests::tables::{Pair, env_of};
 
 fn who(alloc: Global) -> Result<Who, TextFault> {
     let job = Name::new(alloc, "a")?;

@@ -1,6 +1,5 @@
 //! The small calls: tests of one text, state or end, and copies.
 use crate::conf::jobs::is_setting;
-use crate::tables::fields;
 use std::alloc::{AllocError, Global};
 use std::test::Fail;
 use up_expr::{Test, is_job_event, wanted_job};
@@ -8,6 +7,7 @@ use up_model::{Goal, State};
 use up_stanza::{Exit, Setting, Signal, has_shell, is_shell};
 use up_text::env::{is_key, is_key_byte, is_key_start, is_value, split_pair};
 use up_text::{Text, as_text, is_name};
+use up_text_tests::tables::fields;
 
 // In each row, which ends with `||`, what a text may be, whether it is that, and the text. A pair has its two parts in place of `yes`. The bytes
 // of each text are that text.

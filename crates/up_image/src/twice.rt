@@ -1,6 +1,8 @@
 //! Tells whether a path that is read occurs twice in a folder.
 ghost use Rattle.std.specs.Prelude.{◌≡◌, IfOk, map};
+ghost use Rattle.up_conf.specs.Order.{is_below};
 ghost use Rattle.up_image.specs.Compiling.{read_paths, has_twice};
+ghost use Rattle.up_image.specs.Definable.{are_ascending};
 
 use std::alloc::{AllocError, Global};
 use std::collections::BTreeSet;
@@ -21,8 +23,25 @@ fn read_paths<'a>(alloc: Global, index: &FolderIndex<'a>) -> Result<Vec<&'a [u8]
     Ok(paths)
 }
 
-/// Whether two of the texts are equal.
-pub(crate) fn has_twice(alloc: Global, texts: &[&[u8]]) -> Result<bool, AllocError>
+fn is_below(text: &[u8], other: &[u8]) -> bool
+    ensures { result ≡ is_below text.now other.now }
+{
+    text.cmp(other).is_lt()
+}
+
+// Whether each text is less than the next one.
+fn are_ascending(texts: &[&[u8]]) -> bool
+    ensures { result ≡ are_ascending (map (λ text. text.now) texts.now) }
+{
+    for i in 1..texts.len() {
+        if !is_below(texts[i - 1], texts[i]) {
+            return false;
+        }
+    }
+    true
+}
+
+fn has_equal(alloc: Global, texts: &[&[u8]]) -> Result<bool, AllocError>
     ensures { IfOk result (λ twice. twice ≡ has_twice (map (λ text. text.now) texts.now)) }
 {
     let mut seen: BTreeSet<&[u8]> = BTreeSet::new(alloc);
@@ -32,6 +51,17 @@ pub(crate) fn has_twice(alloc: Global, texts: &[&[u8]]) -> Result<bool, AllocErr
         }
     }
     Ok(false)
+}
+
+/// Whether two of the texts are equal. Texts that ascend, as the paths of a folder mostly do, are compared with the next one alone.
+#[tactic(auto, using(crate::proofs::Ascending::apart))]
+pub(crate) fn has_twice(alloc: Global, texts: &[&[u8]]) -> Result<bool, AllocError>
+    ensures { IfOk result (λ twice. twice ≡ has_twice (map (λ text. text.now) texts.now)) }
+{
+    if are_ascending(texts) {
+        return Ok(false);
+    }
+    has_equal(alloc, texts)
 }
 
 /// Whether a path that is read occurs twice.

@@ -1,7 +1,7 @@
 -- What is printed of faults, with what is said of each.
 use Rattle.std.proofs.Common.{◌≡◌, ℕ, ◌+◌, ◌<◌, List, [], ◌∷◌, ◌++◌, length, take, get_or, ◌∙◌, ap, sym, refl, subst, append_assoc}
 use Rattle.std.proofs.lemmas.List.{append-nil, take_more}
-use Rattle.up_advice.specs.Advice.{advice_lines}
+use Rattle.up_print.specs.Advice.{advice_lines}
 use Rattle.up_conf.specs.declared.folder.File.{File}
 use Rattle.up_conf.specs.declared.report.Fault.{Fault}
 use Rattle.up_print.specs.Folders.{Explains, fault_line}

@@ -17,8 +17,8 @@ use Rattle.up_image.specs.Image.{has_image}
 use Rattle.up_image.specs.Refusals as refusal
 use Rattle.up_image.specs.declared.image_error.ImageError.{ImageError}
 use Rattle.up_image.specs.ImageErrors as image_error
-use Rattle.up_advice.specs.Advice.{advice_lines}
-use Rattle.up_advice.specs.Graph.{graph_of}
+use Rattle.up_print.specs.Advice.{advice_lines}
+use Rattle.up_print.specs.Graph.{graph_of}
 use Rattle.up_print.specs.declared.printed.Printed.{Printed}
 
 -- the line of a fault

@@ -4,3 +4,7 @@ pub mod Folders
 pub mod Lines
 -- What is written as far as a writer takes it.
 pub mod Writing
+-- What is said below a fault.
+pub mod Advice
+-- The jobs and the events that join them, as a graph.
+pub mod Graph

@@ -3,10 +3,10 @@ ghost use Rattle.std.specs.Prelude.{◌≡◌, ◌++◌, Err, IfOk, OnErr, OnOk}
 ghost use Rattle.up_image.specs.declared.refusal.CompileError.TheVariants.{Memory};
 ghost use Rattle.up_print.specs.Folders.{check_output, compile_outcome, count_line, faults_output, table_of, Checks, ChecksExplained, ExplainsOutcome, Graphs, graph_output, IsCompiled, IsTable, PrintsFaults};
 
-use crate::lines::{push, push_decimal};
+use crate::graph::graph;
 use crate::printed::{Printed, push_explained, push_faults, refused, status_of};
+use crate::push::{push, push_decimal};
 use std::alloc::{AllocError, Global};
-use up_advice::graph::graph;
 use up_conf::{Folder, Report};
 use up_image::{CompileError, Table, compile};
 use up_text::Items;

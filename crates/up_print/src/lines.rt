@@ -1,20 +1,14 @@
 //! The lines that are printed.
 ghost use Rattle.std.specs.Prelude.{◌≡◌, ◌++◌, OnOk};
 ghost use Rattle.std.specs.List.{flat_map, list_all};
-ghost use Rattle.std.specs.Fmt.{decimal};
 ghost use Rattle.up_model.specs.Signals.{signal_text};
 ghost use Rattle.up_print.specs.Lines.{escaped, is_plain, quoted, instance_text, who_text, word_text, binding_text, variable_text, variable_line, spawn_lines, signal_line, event_line, verdict_text, reply_line, output_lines, step_lines, bad_statement_line};
 
+use crate::push::{push, push_decimal};
 use std::alloc::AllocError;
 use up_conf::signal_name;
 use up_model::{Answer, Event, Order, Output, Step, Who, process_name};
 use up_text::{Env, Text};
-
-pub(crate) fn push(text: &mut Vec<u8>, more: &str) -> Result<(), AllocError>
-    ensures { OnOk result (text.new.items ≡ text.old.items ++ more.now) }
-{
-    text.extend_from_slice(more.as_bytes())
-}
 
 #[tactic(auto, unfolding(crate::specs::Lines::escaped))]
 fn push_escaped(text: &mut Vec<u8>, byte: u8) -> Result<(), AllocError>
@@ -64,13 +58,6 @@ fn push_quoted(text: &mut Vec<u8>, more: &str) -> Result<(), AllocError>
     push(text, "\"")?;
     push_all_escaped(text, more.as_bytes())?;
     push(text, "\"")
-}
-
-pub(crate) fn push_decimal(text: &mut Vec<u8>, number: u64) -> Result<(), AllocError>
-    ensures { OnOk result (text.new.items ≡ text.old.items ++ decimal number) }
-{
-    let digits = number.to_string(*text.allocator())?;
-    push(text, digits.as_str())
 }
 
 fn push_signal(text: &mut Vec<u8>, signal: u8) -> Result<(), AllocError>

@@ -5,9 +5,9 @@ ghost use Rattle.std.specs.List.{flat_map};
 ghost use Rattle.up_model.specs.declared.exit_status.ExitStatus.TheVariants.{Unusable};
 ghost use Rattle.up_print.specs.Folders.{Explains, fault_line, image_refusal_line, prints, refusal_line, status_of, unusable};
 
-use crate::lines::{push, push_decimal};
+use crate::advice::push_advice;
+use crate::push::{push, push_decimal};
 use std::alloc::{AllocError, Global};
-use up_advice::push_advice;
 use up_conf::{Fault, File, Report};
 use up_image::{CompileError, ImageError};
 use up_model::ExitStatus;

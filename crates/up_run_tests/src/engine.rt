@@ -21,10 +21,10 @@ use std::alloc::{AllocError, Global};
 use std::process::Abort;
 use std::test::Fail;
 use up_conf::Folder;
+use up_disk::{BundleRun, compile_bundle};
 use up_engine::{Engine, StepError};
 use up_model::{Input, Order, Output};
 use up_print::push_output;
-use up_replay::{BundleRun, compile_bundle};
 use up_script::bundle::MAX_BUNDLE;
 use up_text::{Env, Items, Text, TextFault, as_text};
 

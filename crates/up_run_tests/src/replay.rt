@@ -1,5 +1,6 @@
 //! What is printed for bundles whose reader or writer fails, for folders, inputs and outputs. Whole bundles stand in `tests/rows` and
 //! `tests/bundles.py`, and the built program replays them.
+mod advice;
 mod distribution;
 mod folders;
 mod inputs;
@@ -10,7 +11,7 @@ mod streams;
 
 use std::io::Read;
 use std::process::Abort;
-use up_replay::replay::replay;
+use up_disk::replay::replay;
 
 /// Compares what is printed and the status. A failure is told by the name and the place of the case.
 pub(crate) fn check_printed(

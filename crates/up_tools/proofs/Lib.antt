@@ -2,3 +2,5 @@
 pub mod Watching
 -- What is printed of a record over an image.
 pub mod Viewing
+-- A test of two values is true exactly if they are equal.
+pub mod Sameness

@@ -1,7 +1,7 @@
 -- What is printed of what a reload from one folder or image to a folder changes.
 use Rattle.std.specs.Prelude.{◌≡◌, ◌⊎◌, List, ◌++◌, Option, Some, codes}
 use Rattle.up_value.specs.Values.{Bytes}
-use Rattle.up_compare.specs.Compare.{Compares}
+use Rattle.up_tools.specs.Changes.{Compares}
 use Rattle.up_conf.specs.declared.folder.File.{File}
 use Rattle.up_conf.specs.declared.job.JobDef.{JobDef}
 use Rattle.up_disk.specs.Disk.{CannotWalk, IsRefusedImage, IsUnusable}

@@ -4,3 +4,9 @@ pub mod Views
 pub mod Lints
 -- What is printed of what a reload changes.
 pub mod Compares
+-- Whether two values of a job's field are the same.
+pub mod Same
+-- The parts of a job.
+pub mod Parts
+-- What changes from one list of jobs to another.
+pub mod Changes

@@ -18,9 +18,9 @@ use Rattle.up_print.specs.declared.printed.Printed.{Printed}
 use Rattle.up_script.specs.declared.bundle.TheConstants.{MAX_BUNDLE}
 use Rattle.up_script.specs.Bundle.{files_of, lines_of}
 use Rattle.up_print.specs.Folders.{IsTable, PrintsFaults, prints}
-use Rattle.up_replay.specs.declared.bundle.BundleRun.{BundleRun}
-use Rattle.up_replay.specs.Compiling.{Compiles}
-use Rattle.up_replay.specs.Replay.{output_by, play_output, Plays}
+use Rattle.up_disk.specs.declared.bundle.BundleRun.{BundleRun}
+use Rattle.up_disk.specs.Compiling.{Compiles}
+use Rattle.up_disk.specs.Replay.{output_by, play_output, Plays}
 use Rattle.up_script.specs.Statements.{script_inputs}
 use Rattle.up_tools.specs.declared.view.View.{View}
 use Rattle.up_tools.specs.declared.view.View.TheVariants as view

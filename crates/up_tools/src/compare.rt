@@ -5,12 +5,12 @@ ghost use Rattle.up_print.specs.Folders.{image_refusal_line, prints, unusable};
 ghost use Rattle.up_model.specs.declared.exit_status.ExitStatus.TheVariants.{Unusable};
 ghost use Rattle.up_tools.specs.Compares.{ComparesDir, ComparesJobs, ComparesOther, ComparesWith, Loads, LoadsBytes, LoadsDir, LoadsFiles, LoadsImage, LoadsNamed, LoadsOther, LoadsOtherDir, loaded_by, named, named_in};
 
+use crate::changes::compare;
 use crate::lint::status_by;
 use std::alloc::{AllocError, Global};
 use std::fs;
 use std::io::Eprint;
 use std::rt::Files;
-use up_compare::compare;
 use up_conf::{Folder, JobDef};
 use up_disk::walk::walk;
 use up_disk::{WalkError, read_bytes};

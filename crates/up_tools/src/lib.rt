@@ -1,6 +1,7 @@
 //! Reports about a folder on the disk other than its faults and its runs, and the contents of a record of a run.
 #![tactic(auto)]
 
+mod changes;
 pub mod compare;
 pub mod lint;
 pub mod source;

@@ -10,11 +10,11 @@ use up_chart::Chart;
 use up_chart::blame::blame;
 use up_chart::svg::svg;
 use up_conf::Folder;
+use up_disk::{BundleRun, compile_bundle, play_run, render_folder};
 use up_image::Table;
 use up_model::Input;
 use up_print::Printed;
 use up_print::check::faults_and_compile;
-use up_replay::{BundleRun, compile_bundle, play_run, render_folder};
 use up_script::ScriptInputs;
 use up_text::{Env, Items};
 

@@ -1,8 +1,8 @@
 //! What a file may have at most.
 use crate::conf::{Reading, read};
-use crate::tables::{Long, long_text};
 use std::alloc::Global;
 use std::test::Fail;
+use up_text_tests::tables::{Long, long_text};
 
 // A long file, its size if that is limited, and what it is read as.
 struct Large {

@@ -1,12 +1,12 @@
 //! Which job is the first that an event may concern.
 use crate::events::files::files_of;
-use crate::text::{Pair, env_of};
 use std::alloc::Global;
 use std::test::Fail;
 use up_image::JobFile;
 use up_marks::{Finder, lesser_of};
 use up_model::Event;
 use up_text::{Name, TextFault};
+use up_text_tests::tables::{Pair, env_of};
 
 // Jobs of one stanza each, an event `go` with variables, and the first job, from one on, that it may concern.
 struct Case {

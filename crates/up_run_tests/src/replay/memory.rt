@@ -6,7 +6,7 @@ use crate::replay::streams::{PRINTED, STARTUP};
 use std::alloc::Global;
 use std::io;
 use std::io::Write;
-use up_replay::replay::replay;
+use up_disk::replay::replay;
 
 // Takes what is wanted, and no memory.
 #[derive(Drop)]

@@ -41,7 +41,8 @@ static CHECKS: [Step; 4] = [
     (&[("x.conf", b"")], "initd: 21 SameName\n", 3),
 ];
 
-fn add_files(
+/// Adds files to a folder.
+pub(crate) fn add_files(
     alloc: Global,
     folder: &mut Folder,
     files: &[(&str, &[u8])],

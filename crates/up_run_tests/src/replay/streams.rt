@@ -4,7 +4,7 @@ use std::alloc::Global;
 use std::io;
 use std::io::{ErrorKind, Read, Write};
 use std::process::Abort;
-use up_replay::replay::replay;
+use up_disk::replay::replay;
 
 pub(crate) const STARTUP: &'static [u8] =
     b"%file a.conf\nstart on startup\nexec /bin/true x\n%script\nemit startup\nturn\nturn\nturn\nspawned a \"\" main 100\nturn\nturn 2\n";

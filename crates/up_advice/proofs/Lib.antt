@@ -1,2 +1,0 @@
--- Texts to which one piece is appended after another.
-pub mod Joining

@@ -1,6 +1,0 @@
-use Rattle.up_expr.specs.Flat.{size}
-use Rattle.up_file_tests.proofs.expr.+trees.Given as goal
-
--- a side is smaller
-abbrev pub decreases-write_tree : goal.decreases-write_tree
-decreases-write_tree l = size l.branch.now

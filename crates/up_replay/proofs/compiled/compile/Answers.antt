@@ -1,5 +1,0 @@
-use Rattle.up_replay.proofs.Compiling.{outcome}
-use Rattle.up_replay.proofs.compiled.compile.Goals as goal
-
-pub returns : goal.returns
-returns c = outcome c.args.folder.now c.faults_and_compile.result c.faults_and_compile.ensures.faults c.faults_and_compile.ensures.table
