@@ -85,6 +85,16 @@ fn get(instances: &[Instance], at: usize) -> Option<&Instance>
     instances.get(at)
 }
 
+// Makes room for a first instance. A vector that grows by itself begins with room for four, and most jobs have one.
+fn make_room(instances: &mut Vec<Instance>) -> Result<(), AllocError>
+    ensures { instances.new.items ≡ instances.old.items }
+{
+    if instances.is_empty() {
+        instances.reserve_exact(1)?;
+    }
+    Ok(())
+}
+
 // Returns the index of the instance.
 fn insert(instances: &mut Vec<Instance>, instance: Instance) -> Result<usize, AllocError>
     requires { by_name.AreInOrder name_of instances.old.items }
@@ -94,6 +104,7 @@ fn insert(instances: &mut Vec<Instance>, instance: Instance) -> Result<usize, Al
     ensures unchanged { OnErr result (instances.new.items ≡ instances.old.items) }
 {
     let at = position(instances.as_slice(), instance.name.as_str());
+    make_room(instances)?;
     instances.insert(at, instance)?;
     Ok(at)
 }
