@@ -25,7 +25,7 @@ def over_a_folder(work):
         check("and is unknown then", run.ask("status", "a"), ("initctl: Unknown job: a\n", 1))
         write(folder, {f"{number}.conf": SLEEPS for number in range(1025)})
         check("a folder of too many jobs is refused", run.ask("reload-configuration"), ("initctl: Configuration refused: 20\n", 1))
-        said = f"initd: {folder}: 20 TooManyJobs: the configuration stays as it was"
+        said = f"initd: {folder}: 20 TooManyJobs: the configuration is unchanged"
         check("which is said", run.err.read_text().splitlines()[-1], said)
         check("and changes nothing", run.ask("list"), ("c start/running, process PID\n", 0))
     finally:
@@ -50,7 +50,7 @@ def over_an_image(work):
         check("an image that was cut is refused", run.ask("reload-configuration"), ("initctl: Configuration refused: 32\n", 1))
         image.unlink()
         check("one that is gone isn't read", run.ask("reload-configuration"), ("initctl: Configuration not read\n", 1))
-        wanted = [f"initd: {image}: 32 Truncated: the configuration stays as it was", f"initd: {image}: No such file or directory"]
+        wanted = [f"initd: {image}: 32 Truncated: the configuration is unchanged", f"initd: {image}: No such file or directory"]
         check("both are said", run.err.read_text().splitlines(), wanted)
         check("neither changes anything", run.ask("list"), ("a stop/waiting\nb start/running, process PID\n", 0))
     finally:

@@ -73,4 +73,4 @@ def all_of(work):
     check("a service that crashed runs again", crashed[-1] if crashed else "", RUNS.strip())
     shown = next(found for block, found in zip(commands, printed) if "initd compile" in block)
     check("the image is compiled and shown", shown.startswith("1 jobs, 0 faults\n%file clock.conf\n"), True)
-    check("what the init said", [line for line in said.splitlines() if "respawn limit" in line][:1], ["initd: clock: it ended too often for its respawn limit, and stays down"])
+    check("what the init said", [line for line in said.splitlines() if "respawning" in line][:1], ["initd: clock: respawning too fast, stopped"])

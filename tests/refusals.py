@@ -34,16 +34,16 @@ def an_image_that_replaces_nothing(work, folder):
     link, pipe, there = work / "link.image", work / "pipe.image", work / "there.image"
     link.symlink_to(work / "elsewhere.image")
     os.mkfifo(pipe)
-    check("compile to a link", initd_said("compile", folder, link), unusable(link, "it is a symbolic link, and isn't replaced"))
+    check("compile to a link", initd_said("compile", folder, link), unusable(link, "it is a symbolic link, which is never replaced"))
     check("the link is still there", link.is_symlink() and not link.exists(), True)
-    check("compile to a pipe", initd_said("compile", folder, pipe), unusable(pipe, "it is no regular file, and isn't replaced"))
+    check("compile to a pipe", initd_said("compile", folder, pipe), unusable(pipe, "it isn't a regular file, and is never replaced"))
     check("the pipe is still there", pipe.is_fifo(), True)
-    check("compile to a folder", initd_said("compile", folder, folder), unusable(folder, "it is a folder, and isn't replaced"))
+    check("compile to a folder", initd_said("compile", folder, folder), unusable(folder, "it is a folder, which is never replaced"))
     device = a_device(work)
-    check("compile to a device", initd_said("compile", folder, device), unusable(device, "it is no regular file, and isn't replaced"))
+    check("compile to a device", initd_said("compile", folder, device), unusable(device, "it isn't a regular file, and is never replaced"))
     check("the device is still there", stat.S_ISCHR(os.stat(device).st_mode), True)
     output = pathlib.Path("/dev/stdout")
-    check("compile to the standard output", initd_said("compile", folder, output), unusable(output, "it is a symbolic link, and isn't replaced"))
+    check("compile to the standard output", initd_said("compile", folder, output), unusable(output, "it is a symbolic link, which is never replaced"))
     away = work / "no" / "image"
     check("compile to no folder", initd_said("compile", folder, away), unusable(away, "No such file or directory"))
     there.write_text("an older one")
@@ -51,7 +51,7 @@ def an_image_that_replaces_nothing(work, folder):
     check("the file is an image", initd("show", there)[1], 0)
     left = work / "there.image.new"
     left.write_text("half")
-    why = "it is there, left by a compile that was ended or in use by another: remove it"
+    why = "it exists: another compile uses it, or one that was killed left it; remove it if none runs"
     check("compile beside a left-over", initd_said("compile", folder, there), unusable(there, why, left))
     check("the left-over is as it was", left.read_text(), "half")
 
@@ -62,17 +62,17 @@ def a_record_that_is_there(work, folder):
     try:
         wait_for(lambda: run.pid("clock"))
         before = record.read_text()
-        why = "it is there, and somebody listens at it"
+        why = "it exists, and a process listens on it"
         second = initd_said("run", folder, run.socket, "--record", record, "--record-over")
         check("a second run at a socket", second, unusable(run.socket, why))
         check("the record of the first goes on", record.read_text().startswith(before), True)
     finally:
         run.end()
     kept = record.read_text()
-    why = "it is there, and nobody listens at it any more: remove it"
+    why = "it exists, and no process listens on it any more: remove it"
     check("a run at a socket that was left", initd_said("run", folder, run.socket), unusable(run.socket, why))
     other = work / "other.socket"
-    why = "it is there; with --record-over it is written over"
+    why = "it exists; --record-over overwrites it"
     check("a run over a record", initd_said("run", folder, other, "--record", record), unusable(record, why))
     check("no socket is left of it", other.exists(), False)
     check("the record is as it was", record.read_text(), kept)
@@ -90,12 +90,12 @@ def sockets_that_cant_be_made(work, folder):
     idle = work / "idle"
     path = work / "folder"
     path.mkdir()
-    check("a folder for a socket", initd_said("run", idle, path), unusable(path, "it is there, and is no socket"))
+    check("a folder for a socket", initd_said("run", idle, path), unusable(path, "it exists, and isn't a socket"))
     away = work / "no" / "socket"
     check("a socket in no folder", initd_said("run", idle, away), unusable(away, "No such file or directory"))
     long = work / ("s" * 102)
-    check("a long path", initd_said("run", idle, long), unusable(long, "a socket's path has at most 101 bytes"))
-    check("an empty path", initd_said("run", idle, ""), unusable("", "an empty path names no socket"))
+    check("a long path", initd_said("run", idle, long), unusable(long, "the path of a socket has at most 101 bytes"))
+    check("an empty path", initd_said("run", idle, ""), unusable("", "the path is empty"))
     path = work / "left.socket"
     left = work / "left.socket.new"
     left.mkdir(0o700)
@@ -107,7 +107,7 @@ def sockets_that_cant_be_made(work, folder):
     path.unlink()
     left.mkdir(0o700)
     (left / "s").write_text("")
-    why = "it is there, and isn't the folder that an init of yours left: remove it"
+    why = "it exists, and isn't a folder that an init of this user left: remove it"
     check("a run beside something else", initd_said("run", idle, path, "--rounds", "2"), unusable(path, why, left))
     check("which is as it was", (left / "s").exists() and not path.exists(), True)
 
@@ -141,7 +141,7 @@ def starts_at_once(work):
     left.mkdir(0o700)
     held = os.open(left, os.O_RDONLY)
     fcntl.flock(held, fcntl.LOCK_EX)
-    why = "another init is being started at it"
+    why = "another init is starting on it"
     check("a run beside another start", initd_said("run", idle, path, "--rounds", "2"), unusable(path, why))
     check("whose folder stays", left.exists(), True)
     os.close(held)
@@ -158,7 +158,7 @@ def bundles_that_cant_be_read():
     folder = os.open("/", os.O_RDONLY)
     check("a folder as standard input", said(folder), unusable("-", "Is a directory"))
     os.close(folder)
-    check("a long bundle", said(None, b"#" * 67_108_865), unusable("-", "it has more than 67108864 bytes"))
+    check("a long bundle", said(None, b"#" * 67_108_865), unusable("-", "it is larger than 64 MiB (67108864 bytes)"))
 
 
 def sources_that_cant_be_read(work):
@@ -186,7 +186,7 @@ def sources_that_cant_be_read(work):
         with open(name, "w") as file:
             file.write("exec /bin/true\n")
     found = initd_said("check", folder)
-    lines = [f"initd: {below}: an entry in it is passed over, whose name isn't UTF-8" for below in (f"{folder}/", f"{folder}/sub/")]
+    lines = [f"initd: {below}: an entry of it is skipped, since its name isn't UTF-8" for below in (f"{folder}/", f"{folder}/sub/")]
     check("names that aren't UTF-8 are passed over", (found[0], sorted(found[1].splitlines()), found[2]), ("1 jobs, 0 faults\n", lines, 0))
     for name in names:
         os.unlink(name)
@@ -195,12 +195,12 @@ def sources_that_cant_be_read(work):
     check("a job file that is a link to nothing", initd_said("check", folder), unusable(job, "No such file or directory"))
     job.unlink()
     os.mkfifo(job)
-    check("a pipe as a job file", initd_said("check", folder), unusable(job, "it is called as a job file, and is no regular file"))
+    check("a pipe as a job file", initd_said("check", folder), unusable(job, "it is named like a job file, and isn't a regular file"))
     missing = work / "missing"
     check("no folder", initd_said("run", missing, work / "s"), unusable(missing, "No such file or directory"))
     check("no image", initd_said("show", missing), unusable(missing, "No such file or directory"))
     check("no script", initd_said("replay", work / "idle", missing), unusable(missing, "No such file or directory"))
-    check("a device as jobs", initd_said("run", "/dev/null", work / "s"), unusable("/dev/null", "it is no folder and no regular file"))
+    check("a device as jobs", initd_said("run", "/dev/null", work / "s"), unusable("/dev/null", "it is neither a folder nor a regular file"))
 
 
 def small_files():
@@ -245,7 +245,7 @@ COMMANDS = {
     "stop": "Stops an instance of a job",
     "restart": "Stops an instance of a job and starts it again",
     "status": "Prints the status of an instance of a job",
-    "reload": "Sends main of an instance of a job its reload signal",
+    "reload": "Sends the main process of an instance of a job its reload signal",
     "emit": "Emits an event",
     "list": "Prints the status of every job",
     "reload-configuration": "Reads the job files again",

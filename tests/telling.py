@@ -27,8 +27,8 @@ initd: gone: main couldn't be started: No such file or directory
 initd: away: main couldn't be started: No such file or directory
 initd: early: pre-start couldn't be started: No such file or directory
 initd: bad: main ended with status 1
-initd: killed: main was ended by the signal KILL
-initd: loop (one two): it ended too often for its respawn limit, and stays down
+initd: killed: main was killed by signal KILL
+initd: loop (one two): respawning too fast, stopped
 """
 
 
@@ -101,7 +101,7 @@ def nobody_reads(work, folder):
             while more := os.read(reader, 65_536):
                 read += more
         said = run.err.read_text()
-        check("lost lines are counted", bool(re.fullmatch(r"initd: \d+ lines of what happens are lost: nobody read them\n", said)), True)
+        check("lost lines are counted", bool(re.fullmatch(r"initd: \d+ lines of output are lost: nothing read them in time\n", said)), True)
         check("the others are whole", read.endswith(b"\n") and len(read) > 500_000, True)
     finally:
         os.close(reader)
@@ -154,7 +154,7 @@ def a_reader_that_goes(work, folder):
     try:
         check("an init whose reader went goes on", run.ask("start", "silent"), ("silent stop/waiting\n", 0))
         said = run.err.read_text()
-        check("and says so once", (said.startswith("initd: what happens is told no more: "), said.count("\n")), (True, 1))
+        check("and says so once", (said.startswith("initd: the output of --verbose isn't printed any more: "), said.count("\n")), (True, 1))
     finally:
         run.end()
 

@@ -34,7 +34,7 @@ fn socket<'a>(alloc: Global) -> Arg<'a>
         .long("socket")
         .value_name("PATH")
         .help(
-            "The socket of the init; without it the variable INITCTL_SOCKET names it, or else it is /run/initd.socket",
+            "The socket of the init; by default the value of INITCTL_SOCKET, or /run/initd.socket",
         )
         .action(ArgAction::Set)
 }
@@ -50,7 +50,7 @@ pub fn with_socket<'a>(alloc: Global) -> Result<Command<'a>, AllocError>
 // The text in place of the tip to pass an option as a value.
 fn tip_for(fault: &str) -> &'static str {
     if fault.contains("'--socket'") {
-        "  tip: '--socket PATH' stands before the command\n\n"
+        "  tip: '--socket PATH' comes before the command\n\n"
     } else {
         ""
     }

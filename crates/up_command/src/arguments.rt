@@ -71,14 +71,14 @@ const SOURCE: Argument = Argument {
 const RECORD: Argument = Argument {
     id: "RECORD",
     shown: "RECORD",
-    help: "The file of what happened, such as --record writes; none with --bundle",
+    help: "The record, a script such as --record writes; left out with --bundle",
     kind: ArgumentKind::LastPlace,
 };
 
 const BUNDLE: Argument = Argument {
     id: "bundle",
     shown: "",
-    help: "Takes one file in place of both, a bundle, which has its folders and its script",
+    help: "Reads a bundle: one file with the folders and the script",
     kind: ArgumentKind::Flag,
 };
 
@@ -91,13 +91,13 @@ static SUBCOMMANDS: [Subcommand; 9] = [
             Argument {
                 id: "explain",
                 shown: "",
-                help: "Prints below each fault the line at fault, and what to do",
+                help: "Prints below each fault the faulty line, and how to fix it",
                 kind: ArgumentKind::Flag,
             },
             Argument {
                 id: "against",
                 shown: "DIR|IMAGE",
-                help: "Prints what a reload to the folder changes in a run over this folder or image, a line for each job",
+                help: "Prints what a reload changes in a run of this folder or image, a line for each job",
                 kind: ArgumentKind::InsteadOf("explain"),
             },
         ],
@@ -109,19 +109,19 @@ static SUBCOMMANDS: [Subcommand; 9] = [
     },
     Subcommand {
         name: "lint",
-        about: "Prints what is most likely a mistake in a folder's job files",
+        about: "Warns of what is probably a mistake in a folder's job files",
         arguments: &[
             DIR,
             Argument {
                 id: "allow",
                 shown: "NAME",
-                help: "Prints no warning of this kind, as unknown-event; may be given again and again",
+                help: "Leaves out warnings of this kind, such as unknown-event; may be repeated",
                 kind: ArgumentKind::Texts,
             },
             Argument {
                 id: "event",
                 shown: "NAME",
-                help: "An event that comes from outside; may be given again and again",
+                help: "Declares an event that comes from outside; may be repeated",
                 kind: ArgumentKind::Texts,
             },
         ],
@@ -138,27 +138,27 @@ static SUBCOMMANDS: [Subcommand; 9] = [
     },
     Subcommand {
         name: "replay",
-        about: "Prints what a script of events makes the jobs of a folder or of an image do",
+        about: "Prints what the jobs of a folder or of an image do at the inputs of a script",
         arguments: &[
             SOURCE,
             Argument {
                 id: "SCRIPT",
                 shown: "SCRIPT",
-                help: "The file of what happens; none with --bundle",
+                help: "The script with the inputs; left out with --bundle",
                 kind: ArgumentKind::LastPlace,
             },
             BUNDLE,
             Argument {
                 id: "env",
                 shown: "KEY=VALUE",
-                help: "Sets a variable for each process, on top of which its job's are set; may be given again and again",
+                help: "Sets a variable for each process, unless its job sets it; may be repeated",
                 kind: ArgumentKind::Texts,
             },
         ],
     },
     Subcommand {
         name: "chart",
-        about: "Prints a picture, in SVG, of what a record says that instances did, and when",
+        about: "Draws the states of instances over the time of a record, in SVG",
         arguments: &[SOURCE, RECORD, BUNDLE],
     },
     Subcommand {
@@ -174,25 +174,25 @@ static SUBCOMMANDS: [Subcommand; 9] = [
             Argument {
                 id: "SOCKET",
                 shown: "SOCKET",
-                help: "The path of the socket at which clients ask, /run/initd.socket if left out; nothing may be there yet",
+                help: "The path of the socket for clients, by default /run/initd.socket; it must not exist yet",
                 kind: ArgumentKind::LastPlace,
             },
             Argument {
                 id: "rounds",
                 shown: "N",
-                help: "Ends after so many rounds, 1 to 4294967295; without it, after 4294967295",
+                help: "Ends after N rounds, from 1 to 4294967295, which is the default",
                 kind: ArgumentKind::Count,
             },
             Argument {
                 id: "pause",
                 shown: "MS",
-                help: "The longest pause after a round that did nothing, in milliseconds: 10 if left out. The end of a process is noticed up to so much later; with 0 there is no pause, and a processor is busy all the time",
+                help: "The longest pause after a quiet round, in milliseconds, by default 10. The end of a process is noticed up to that much later; with 0 a processor is always busy",
                 kind: ArgumentKind::Pause,
             },
             Argument {
                 id: "client-timeout",
                 shown: "S",
-                help: "Closes a client that has sent no whole request for S seconds, while it waited for no answer: 60 if left out; with 0 never",
+                help: "Disconnects a client that has sent no complete request for S seconds and waits for no reply, by default 60; 0 disconnects none",
                 kind: ArgumentKind::Timeout,
             },
             Argument {
@@ -204,25 +204,25 @@ static SUBCOMMANDS: [Subcommand; 9] = [
             Argument {
                 id: "quiet",
                 shown: "",
-                help: "Says nothing on standard error of jobs that fail",
+                help: "Doesn't report on standard error why a job failed or a process couldn't be started",
                 kind: ArgumentKind::Flag,
             },
             Argument {
                 id: "tell",
                 shown: "FILE",
-                help: "Writes what --verbose prints to FILE, which may not be there yet",
+                help: "Writes what --verbose prints to FILE, which must not exist yet",
                 kind: ArgumentKind::Text,
             },
             Argument {
                 id: "record",
                 shown: "FILE",
-                help: "Writes what happens to FILE, which may not be there yet, as a script, whose replay prints what the init did",
+                help: "Writes a script of all inputs to FILE, which must not exist yet; its replay prints what the init did",
                 kind: ArgumentKind::Text,
             },
             Argument {
                 id: "record-over",
                 shown: "",
-                help: "Writes over the FILEs of --record and --tell if they are there",
+                help: "Overwrites the files of --record and --tell",
                 kind: ArgumentKind::Flag,
             },
         ],
@@ -309,7 +309,7 @@ fn add<'a>(
 /// The commands of the program. Without a command it reads a bundle from standard input.
 pub(crate) fn command<'a>(alloc: Global) -> Result<Command<'a>, AllocError> {
     let mut line = Command::new(alloc, "initd").version("0.1.0").about(
-        "Runs and replays job files; without a command, replays a bundle on standard input",
+        "Runs and replays job files; without a command, replays a bundle from standard input",
     );
     for subcommand in &SUBCOMMANDS {
         line = add(line, command_of(alloc, subcommand))?;

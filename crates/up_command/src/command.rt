@@ -258,7 +258,7 @@ fn parse_subcommand<'a>(
 // The explanation of the option whose value a command refuses.
 fn wanted(word: &str) -> &'static str {
     match word {
-        "lint" => "--allow takes the name of a kind of warning, as unknown-event",
+        "lint" => "--allow takes a kind of warning, such as unknown-event",
         _ => "--env takes KEY=VALUE",
     }
 }
@@ -267,10 +267,9 @@ fn wanted(word: &str) -> &'static str {
 fn missing_word(word: &str, given: &ArgMatches) -> &'static str {
     match (word, is_set(given, "bundle")) {
         ("replay", false) =>
-            "SCRIPT is missing: what happened is in a file of its own, unless --bundle says that it is in the first",
-        (_, false) =>
-            "RECORD is missing: what happened is in a file of its own, unless --bundle says that it is in the first",
-        (_, true) => "--bundle takes one file, which has its folders and its script",
+            "SCRIPT is missing; only with --bundle does one file contain everything",
+        (_, false) => "RECORD is missing; only with --bundle does one file contain everything",
+        (_, true) => "--bundle takes one file, which contains the folders and the script",
     }
 }
 

@@ -27,7 +27,7 @@ impl<R: Read> Noted<R> {
             Some(error) => say_error(rt, "-", &error),
             None => {
                 if self.count > MAX_BUNDLE as u64 {
-                    say(rt, "-", "it has more than 67108864 bytes");
+                    say(rt, "-", "it is larger than 64 MiB (67108864 bytes)");
                 }
             }
         }

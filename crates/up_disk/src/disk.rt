@@ -66,7 +66,7 @@ fn read_script<R: Files + Eprint + AllocGlobal>(
     match read_file(rt, script, MAX_BUNDLE + 1) {
         Ok(bytes) => {
             if bytes.len() > MAX_BUNDLE {
-                say(rt, script, "it has more than 67108864 bytes");
+                say(rt, script, "it is larger than 64 MiB (67108864 bytes)");
                 return Ok(None);
             }
             Ok(Some(bytes))

@@ -45,11 +45,11 @@ fn obstacle(found: &Metadata) -> Option<&'static str> {
     if found.is_file() {
         None
     } else if found.is_dir() {
-        Some("it is a folder, and isn't replaced")
+        Some("it is a folder, which is never replaced")
     } else if found.is_symlink() {
-        Some("it is a symbolic link, and isn't replaced")
+        Some("it is a symbolic link, which is never replaced")
     } else {
-        Some("it is no regular file, and isn't replaced")
+        Some("it isn't a regular file, and is never replaced")
     }
 }
 
@@ -74,7 +74,7 @@ fn give_up<R: Files + Eprint>(rt: &R, temporary: &str, path: &str, error: &io::E
         say(
             rt,
             temporary,
-            "it is there, left by a compile that was ended or in use by another: remove it",
+            "it exists: another compile uses it, or one that was killed left it; remove it if none runs",
         );
     } else {
         let _ = fs::remove_file(rt, temporary);

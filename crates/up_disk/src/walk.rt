@@ -24,16 +24,16 @@ const MAX_ENTRIES: usize = 65_536;
 const MAX_READ: usize = 1_048_577;
 
 /// Why an existing job file isn't read.
-const NO_FILE: &str = "it is called as a job file, and is no regular file";
+const NO_FILE: &str = "it is named like a job file, and isn't a regular file";
 
 /// Why a folder isn't read with its subfolders.
-const TOO_DEEP: &str = "a folder in it lies more than 64 levels deep";
+const TOO_DEEP: &str = "it has folders more than 64 levels deep";
 
 /// Why a folder isn't read with all its entries.
-const TOO_MANY: &str = "it has more than 65536 entries, with those of its subfolders";
+const TOO_MANY: &str = "it has more than 65536 entries, including those of its subfolders";
 
 /// The report about a folder with an entry whose name isn't text.
-const NO_TEXT: &str = "an entry in it is passed over, whose name isn't UTF-8";
+const NO_TEXT: &str = "an entry of it is skipped, since its name isn't UTF-8";
 
 /// Why a folder isn't read.
 #[derive(Debug, Drop)]
@@ -359,7 +359,7 @@ pub fn walk<R: Files + Eprint + AllocGlobal + Clone + Drop>(
 {
     // An empty path names no folder; joined with a slash it would be the root.
     if dir.is_empty() {
-        return Err(unusable_since(rt, dir, "an empty path names no folder"));
+        return Err(unusable_since(rt, dir, "the path is empty"));
     }
     let mut found = Found {
         folder: Folder::new(rt.alloc()),

@@ -6,47 +6,47 @@ use up_conf::FaultCode;
 const LEFT_OUT: &'static [(&str, &str)] = &[
     (
         "expect",
-        "`expect` is left out: run the program in the foreground, such as `sshd -D`, so that its own process is watched",
+        "`expect` isn't supported: run the program in the foreground, such as `sshd -D`, so that its own process is watched",
     ),
     (
         "chroot",
-        "`chroot` is left out: run the program by `chroot DIR PROGRAM`",
+        "`chroot` isn't supported: use `chroot DIR PROGRAM`",
     ),
     (
         "setuid",
-        "`setuid` is left out: run the program by `setpriv --reuid=USER --init-groups PROGRAM` or `chpst -u USER PROGRAM`",
+        "`setuid` isn't supported: use `setpriv --reuid=USER --init-groups PROGRAM` or `chpst -u USER PROGRAM`",
     ),
     (
         "setgid",
-        "`setgid` is left out: run the program by `setpriv --regid=GROUP --clear-groups PROGRAM`",
+        "`setgid` isn't supported: use `setpriv --regid=GROUP --clear-groups PROGRAM`",
     ),
     (
         "umask",
-        "`umask` is left out: set it in a script, as `umask 022` before `exec PROGRAM`",
+        "`umask` isn't supported: set it in a script, such as `umask 022` before `exec PROGRAM`",
     ),
     (
         "nice",
-        "`nice` is left out: run the program by `nice -n NUMBER PROGRAM`",
+        "`nice` isn't supported: use `nice -n NUMBER PROGRAM`",
     ),
     (
         "limit",
-        "`limit` is left out: run the program by `prlimit`, such as `prlimit --nofile=4096 PROGRAM`",
+        "`limit` isn't supported: use `prlimit`, such as `prlimit --nofile=4096 PROGRAM`",
     ),
     (
         "oom",
-        "`oom` is left out: run the program by `choom -n NUMBER -- PROGRAM`",
+        "`oom` isn't supported: use `choom -n NUMBER -- PROGRAM`",
     ),
     (
         "apparmor",
-        "`apparmor` is left out: run the program by `aa-exec -p PROFILE -- PROGRAM`",
+        "`apparmor` isn't supported: use `aa-exec -p PROFILE -- PROGRAM`",
     ),
     (
         "cgroup",
-        "`cgroup` is left out: in a script, write $$ to the group's `cgroup.procs` before `exec PROGRAM`",
+        "`cgroup` isn't supported: in a script, write $$ to the `cgroup.procs` of the group before `exec PROGRAM`",
     ),
     (
         "console",
-        "`console owner` is left out: run the program by `setsid --ctty PROGRAM` with the console as its standard streams",
+        "`console owner` isn't supported: use `setsid --ctty PROGRAM` with the console as its standard streams",
     ),
 ];
 
@@ -73,38 +73,39 @@ fn instead(line: &[u8]) -> &'static str {
             return said;
         }
     }
-    "init(5) lists what is left out, and why"
+    "init(5) lists the stanzas that aren't supported"
 }
 
 /// What is wrong at this line, by the code, and what to do.
 pub(crate) fn sentence(code: FaultCode, line: &[u8]) -> &'static str {
     match code {
         FaultCode::UnknownStanza =>
-            "no stanza begins with this word: init(5) lists them; a line that goes on from the one before needs a backslash there",
+            "no stanza begins with this word: init(5) lists all stanzas; to continue the line above, end it with a backslash",
         FaultCode::NotInProfile => instead(line),
-        FaultCode::ExpectedToken => "something is missing: init(5) says what the stanza takes",
+        FaultCode::ExpectedToken =>
+            "an argument is missing: init(5) describes the arguments of each stanza",
         FaultCode::UnexpectedToken =>
-            "a word is too many: a value with blanks needs quotes, and init(5) says what the stanza takes",
-        FaultCode::UnterminatedQuote => "a quote that is opened in this stanza is never closed",
+            "too many words, or one that isn't allowed here: quote a value with blanks; init(5) describes the arguments of each stanza",
+        FaultCode::UnterminatedQuote => "a quote in this stanza is never closed",
         FaultCode::UnterminatedBlock => "the script that begins here has no line `end script`",
-        FaultCode::TrailingBackslash =>
-            "the file ends in a backslash: take it away, or write what it goes on with",
+        FaultCode::TrailingBackslash => "the file ends with a backslash: remove it",
         FaultCode::BadExpression =>
-            "these are no events joined by `and` and `or`: each parenthesis that is opened has to be closed, and an event stands on both sides",
+            "this isn't an expression: write events joined by `and` and `or`, and close each parenthesis",
         FaultCode::ValueBeforeKey =>
-            "a value without a key comes after one with a key: write those without keys first",
+            "a value without a key follows one with a key: write those without keys first",
         FaultCode::BadNumber =>
-            "a number has digits alone, within its limit: 65535 for a count, 255 for a status, 2147483647 for seconds",
+            "a number has only digits, and a limit: 65535 for a count, 255 for a status, 2147483647 for seconds",
         FaultCode::BadSignal =>
             "a signal is a name, such as TERM or SIGTERM, or a number from 1 to 31",
         FaultCode::BadName =>
-            "a name has no blanks, quotes, backslashes, parentheses and none of `#=$`, and a key letters, digits and `_` alone, no digit first; the file's path without its ending is the job's name",
+            "a name has no blanks, quotes, backslashes, parentheses or `#=$`; a key has only letters, digits and `_`, and no digit first; the name of a job is its file's path without the ending",
         FaultCode::BadPattern =>
-            "a set in a pattern may not have `[:`, `[.` or `[=` in it: list its characters",
+            "a set in a pattern must not contain `[:`, `[.` or `[=`: list its characters",
         FaultCode::BadExpansion =>
-            "a variable is written $KEY, ${KEY}, ${KEY-text} or ${KEY:-text}, one in the other at most 16 deep",
-        FaultCode::NotText => "the file isn't UTF-8 text, or has a zero byte",
-        FaultCode::TooLarge => "the file, or something in it, passes a limit: init(5) lists them",
+            "an expansion is $KEY, ${KEY}, ${KEY-text} or ${KEY:-text}, nested at most 16 deep",
+        FaultCode::NotText => "the file isn't UTF-8 text, or contains a zero byte",
+        FaultCode::TooLarge =>
+            "the file, or a part of it, exceeds a limit: init(5) lists the limits",
         FaultCode::Memory => "out of memory",
     }
 }

@@ -57,22 +57,11 @@ fn say_failed<R: Eprint>(rt: &R, vars: &Env) {
     let instance = vars.get("INSTANCE").unwrap_or("");
     let process = vars.get("PROCESS").unwrap_or("");
     if process == "respawn" {
-        say_of(
-            rt,
-            job,
-            instance,
-            "it ended too often for its respawn limit, and stays down",
-        );
+        say_of(rt, job, instance, "respawning too fast, stopped");
     } else if let Some(status) = vars.get("EXIT_STATUS") {
         say_process(rt, (job, instance), process, "ended with status", status);
     } else if let Some(signal) = vars.get("EXIT_SIGNAL") {
-        say_process(
-            rt,
-            (job, instance),
-            process,
-            "was ended by the signal",
-            signal,
-        );
+        say_process(rt, (job, instance), process, "was killed by signal", signal);
     }
 }
 

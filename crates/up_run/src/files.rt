@@ -28,11 +28,7 @@ pub(crate) fn open_file<R: Files + Eprint>(
         Ok(file) => Some(Some(file)),
         Err(error) => {
             if error.kind() == ErrorKind::AlreadyExists {
-                say(
-                    rt,
-                    path,
-                    "it is there; with --record-over it is written over",
-                );
+                say(rt, path, "it exists; --record-over overwrites it");
             } else {
                 say_error(rt, path, &error);
             }

@@ -100,7 +100,7 @@ pub(crate) fn read_jobs<R: Files + Eprint + AllocGlobal + Clone + Drop>(
         Ok(found) if found.is_dir() => read_folder(rt, source),
         Ok(found) if found.is_file() => read_image(rt, source),
         Ok(_) => {
-            say(rt, source, "it is no folder and no regular file");
+            say(rt, source, "it is neither a folder nor a regular file");
             no_run(cannot_use(rt.alloc(), source))
         }
         Err(error) => {

@@ -52,10 +52,8 @@ impl From<io::Error> for Ending {
 impl fmt::Display for Ending {
     fn fmt<W: fmt::Write>(&self, f: &mut fmt::Formatter<W>) -> fmt::Result {
         match self {
-            Ending::Unsaid => f.write_str("no step of a script says what came next"),
-            Ending::NoFiles => f.write_str(
-                "the jobs that were loaded can't be written as job files",
-            ),
+            Ending::Unsaid => f.write_str("no statement of a script can express the next input"),
+            Ending::NoFiles => f.write_str("the jobs of a reload can't be written as job files"),
             Ending::Unwritten(error) => fmt::Display::fmt(&Reason(*error), f),
             Ending::Memory => f.write_str("out of memory"),
         }
@@ -210,7 +208,9 @@ impl<'a, W: Read + Write + OpenFile + Drop> Record<'a, W> {
     // Writes in the record that it ends, since no step can express an input.
     fn end_unsaid(&mut self, alloc: Global, input: &Input) -> Result<(), Ending> {
         let what = unsaid(alloc, input)?;
-        let line = format!(in alloc; "# The record ends: no step says what came next: {what}\n")?;
+        let line = format!(in alloc;
+            "# The record ends: no statement of a script can express this input: {what}\n"
+        )?;
         self.waiting.extend_from_slice(line.as_bytes())?;
         self.write_waiting()?;
         Err(Ending::Unsaid)

@@ -69,7 +69,7 @@ fn gave_lines(alloc: Global, gave: &[Items<Output>]) -> Result<Vec<u8>, AllocErr
 // Reports that lines were lost because nobody read them.
 fn say_lost<R: Eprint>(rt: &R, lost: u64) {
     if lost > 0 {
-        let _ = eprintln!(rt; "initd: {lost} lines of what happens are lost: nobody read them");
+        let _ = eprintln!(rt; "initd: {lost} lines of output are lost: nothing read them in time");
     }
 }
 
@@ -97,7 +97,7 @@ impl<'a, W: Read + Write + OpenFile + Drop> Reporter<'a, W> {
         let _ = eprintln!(rt; "initd: the record ends: {ending}");
         if !is_whole {
             let _ = eprintln!(rt;
-                "initd: the record's last line may be half a line: it can't be cut off"
+                "initd: the last line of the record may be incomplete: it can't be removed"
             );
         }
     }
@@ -134,7 +134,7 @@ impl<'a, W: Read + Write + OpenFile + Drop> Reporter<'a, W> {
         if let Err(error) = told.write_all(text) {
             let why = Reason(error);
             self.told = None;
-            let _ = eprintln!(rt; "initd: what happens is told to no file any more: {why}");
+            let _ = eprintln!(rt; "initd: the file of --tell isn't written any more: {why}");
         }
     }
 
@@ -148,7 +148,9 @@ impl<'a, W: Read + Write + OpenFile + Drop> Reporter<'a, W> {
             Err(error) => {
                 let why = Reason(error);
                 self.verbose = None;
-                let _ = eprintln!(rt; "initd: what happens is told no more: {why}");
+                let _ = eprintln!(rt;
+                    "initd: the output of --verbose isn't printed any more: {why}"
+                );
             }
         }
     }
@@ -164,7 +166,9 @@ impl<'a, W: Read + Write + OpenFile + Drop> Reporter<'a, W> {
             Err(_) => {
                 self.told = None;
                 self.verbose = None;
-                let _ = eprintln!(rt; "initd: what happens is told no more: out of memory");
+                let _ = eprintln!(rt;
+                    "initd: the output of --verbose isn't printed any more: out of memory"
+                );
             }
         }
     }

@@ -15,14 +15,14 @@ fn obstacle<R: Files + Net>(rt: &R, path: &str) -> Option<&'static str> {
         return None;
     };
     if !found.file_type().is_socket() {
-        return Some("it is there, and is no socket");
+        return Some("it exists, and isn't a socket");
     }
     match UnixStream::connect(rt, path) {
-        Ok(_) => Some("it is there, and somebody listens at it"),
+        Ok(_) => Some("it exists, and a process listens on it"),
         Err(error) if error.kind() == ErrorKind::ConnectionRefused => {
-            Some("it is there, and nobody listens at it any more: remove it")
+            Some("it exists, and no process listens on it any more: remove it")
         }
-        Err(_) => Some("it is there, and can't be connected to"),
+        Err(_) => Some("it exists, and can't be connected to"),
     }
 }
 
@@ -32,7 +32,7 @@ fn say_obstacle<R: Files + Net + Eprint>(rt: &R, path: &str) {
         Some(why) => say(rt, path, why),
         None => {
             let _ = eprintln!(rt;
-                "initd: {path}.new: it is there, and isn't the folder that an init of yours left: remove it"
+                "initd: {path}.new: it exists, and isn't a folder that an init of this user left: remove it"
             );
         }
     }
@@ -40,11 +40,11 @@ fn say_obstacle<R: Files + Net + Eprint>(rt: &R, path: &str) {
 
 pub(crate) fn say_no_socket<R: Files + Net + Eprint>(rt: &R, path: &str, fault: SocketFault) {
     match fault {
-        SocketFault::Empty => say(rt, path, "an empty path names no socket"),
-        SocketFault::TooLong => say(rt, path, "a socket's path has at most 101 bytes"),
+        SocketFault::Empty => say(rt, path, "the path is empty"),
+        SocketFault::TooLong => say(rt, path, "the path of a socket has at most 101 bytes"),
         SocketFault::Exists => say_obstacle(rt, path),
         SocketFault::Unusable(ErrorKind::ResourceBusy) => {
-            say(rt, path, "another init is being started at it")
+            say(rt, path, "another init is starting on it")
         }
         SocketFault::Unusable(kind) => say_error(rt, path, &io::Error::from(kind)),
         SocketFault::Memory => {}

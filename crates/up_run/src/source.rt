@@ -28,7 +28,7 @@ fn say_faults<R: Eprint>(rt: &R, report: &[Fault]) {
 }
 
 fn say_refused<R: Eprint>(rt: &R, path: &str, number: u8, name: &str) {
-    let _ = eprintln!(rt; "initd: {path}: {number} {name}: the configuration stays as it was");
+    let _ = eprintln!(rt; "initd: {path}: {number} {name}: the configuration is unchanged");
 }
 
 // The jobs of a folder's files, whose faults are reported; or the reason for their refusal.
@@ -116,7 +116,7 @@ fn load_path<R: Files + Eprint + AllocGlobal + Clone + Drop>(
         Ok(found) if found.is_dir() => load_folder(rt, path),
         Ok(found) if found.is_file() => load_image(rt, path),
         Ok(_) => {
-            say(rt, path, "it is no folder and no regular file");
+            say(rt, path, "it is neither a folder nor a regular file");
             Ok(None)
         }
         Err(error) => {

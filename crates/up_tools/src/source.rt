@@ -29,7 +29,7 @@ fn read_record<R: Files + Eprint + AllocGlobal>(
     match read_file(rt, log, MAX_BUNDLE + 1) {
         Ok(bytes) => {
             if bytes.len() > MAX_BUNDLE {
-                say(rt, log, "it has more than 67108864 bytes");
+                say(rt, log, "it is larger than 64 MiB (67108864 bytes)");
                 return Ok(None);
             }
             Ok(Some(bytes))

@@ -27,7 +27,7 @@ fn help_of(its: Asked) -> &'static str {
         Asked::Stop => "Stops an instance of a job",
         Asked::Restart => "Stops an instance of a job and starts it again",
         Asked::Status => "Prints the status of an instance of a job",
-        Asked::Reload => "Sends main of an instance of a job its reload signal",
+        Asked::Reload => "Sends the main process of an instance of a job its reload signal",
         Asked::Emit => "Emits an event",
         Asked::List => "Prints the status of every job",
         Asked::ReloadConfiguration => "Reads the job files again",
@@ -56,7 +56,7 @@ fn variables<'a>(alloc: Global) -> Arg<'a>
 {
     Arg::new(alloc, "VARS")
         .value_name("KEY=VALUE")
-        .help("Variables; of a repeated key the later value counts")
+        .help("Variables; if a key is repeated, the later value counts")
         .num_args(0..)
         .action(ArgAction::Append)
 }
@@ -67,7 +67,7 @@ fn no_wait<'a>(alloc: Global) -> Arg<'a>
 {
     Arg::new(alloc, "no-wait")
         .long("no-wait")
-        .help("Answers at once, not when it is done")
+        .help("Doesn't wait until it is done")
         .action(ArgAction::SetTrue)
 }
 

@@ -7,7 +7,7 @@ use up_print::graph::graph;
 use up_print::push_advice;
 use up_text::Items;
 
-const SAID: &'static str = "    setuid root\n    `setuid` is left out: ";
+const SAID: &'static str = "    setuid root\n    `setuid` isn't supported: ";
 
 // Whether there is one fault, which is said as it should be.
 fn is_said(alloc: Global, folder: &Folder, report: &Report) -> Result<bool, AllocError> {
