@@ -263,7 +263,7 @@ def words_of_a_client(work):
     check("a bad name", said("emit", "a b"), ("initctl: Bad word: a b\n", 1))
     check("a large request", said("emit", "a", "A=" + "x" * 70_000), ("initctl: Request too large\n", 1))
     text, status = said("start", "--socket", "x", "web")
-    check("an option that stands too late", ("'--socket PATH' stands before the command" in text, "-- --socket" in text, status), (True, False, 2))
+    check("an option that stands too late", ("'--socket PATH' comes before the command" in text, "-- --socket" in text, status), (True, False, 2))
     helped = subprocess.run([INITCTL, "--help"], capture_output=True, text=True, timeout=30).stdout
     described = dict(re.findall(r"^  (\w\S*) {2,}(.+?) *$", helped, flags=re.M))
     check("the help describes each command", {name: described.get(name) for name in COMMANDS}, COMMANDS)
