@@ -1,9 +1,6 @@
-//! The tests of the libraries that run jobs, print runs and talk to clients, over their public interfaces: `up_engine`, `up_script`, `up_print` and
-//! `up_disk`; `up_wire`, `up_client`, `up_edge` and the rounds of `up_daemon`.
+//! The tests of the libraries that run jobs and print runs, over their public interfaces: `up_engine`, `up_script`, `up_print`, and `up_disk`.
 #![tactic(auto)]
 
-#[cfg(test)]
-mod daemon;
 #[cfg(test)]
 mod disk;
 #[cfg(test)]

@@ -1,8 +1,8 @@
 //! A daemon over real children and a real socket.
-use crate::daemon::blinking::Blinking;
-use crate::daemon::edge::orders::path_of;
-use crate::daemon::parts::expect;
-use crate::daemon::stage::{add_job, compiled};
+use crate::blinking::Blinking;
+use crate::edge::orders::path_of;
+use crate::parts::expect;
+use crate::stage::{add_job, compiled};
 use mio::net::UnixStream;
 use std::alloc::Global;
 use std::fs::remove_file;

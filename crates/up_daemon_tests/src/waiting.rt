@@ -1,7 +1,7 @@
 //! A request that waits for the end of a process.
-use crate::daemon::rounds::play;
-use crate::daemon::scripted::{door, late_host};
-use crate::daemon::stage::{Before, make_scene};
+use crate::rounds::play;
+use crate::scripted::{door, late_host};
+use crate::stage::{Before, make_scene};
 use std::test::Fail;
 
 // What passes in each round: the client comes, and the job's process is started; `stop a` enters, and the process is told to end; it lives

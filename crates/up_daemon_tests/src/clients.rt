@@ -1,8 +1,8 @@
 //! Rounds with clients at a door that plays a script.
-use crate::daemon::parts::expect;
-use crate::daemon::rounds::passes;
-use crate::daemon::scripted::{door, door_of, host, push_visits};
-use crate::daemon::stage::{Before, make_scene};
+use crate::parts::expect;
+use crate::rounds::passes;
+use crate::scripted::{door, door_of, host, push_visits};
+use crate::stage::{Before, make_scene};
 use std::alloc::{AllocError, Global};
 use std::test::Fail;
 use up_edge::{ScriptDoor, Visitor};

@@ -1,8 +1,8 @@
 //! Rounds over hosts that play scripts, and over hosts that fail.
-use crate::daemon::parts::expect;
-use crate::daemon::rounds::{are_kinds, come_to, play, round_of};
-use crate::daemon::scripted::{host, late_host, no_door};
-use crate::daemon::stage::{Before, Scene, make_scene};
+use crate::parts::expect;
+use crate::rounds::{are_kinds, come_to, play, round_of};
+use crate::scripted::{host, late_host, no_door};
+use crate::stage::{Before, Scene, make_scene};
 use std::alloc::{AllocError, Global};
 use std::test::Fail;
 use up_daemon::{DaemonError, Round};

@@ -1,7 +1,7 @@
 //! A daemon that begins with an event.
-use crate::daemon::rounds::play;
-use crate::daemon::scripted::{host, no_door};
-use crate::daemon::stage::{Before, make_scene};
+use crate::rounds::play;
+use crate::scripted::{host, no_door};
+use crate::stage::{Before, make_scene};
 use std::test::Fail;
 
 // The inputs of two rounds. The first feeds the event before the clock is read. Its job is started by the third turn, and after three more the

@@ -1,8 +1,8 @@
 //! Rounds in which clients have the configuration read again.
-use crate::daemon::parts::{expect, push};
-use crate::daemon::rounds::play;
-use crate::daemon::scripted::{door, host};
-use crate::daemon::stage::{Before, Scene, make_scene, table_of};
+use crate::parts::{expect, push};
+use crate::rounds::play;
+use crate::scripted::{door, host};
+use crate::stage::{Before, Scene, make_scene, table_of};
 use std::alloc::{AllocError, Global};
 use std::test::Fail;
 use up_edge::{ScriptSource, SourceFault};

@@ -2,7 +2,7 @@
 //! pause, as `alone` and `wait`, has none. A row whose call has no such name fails.
 //!
 //! The prover goes through each way out of a function, so a test is such a text, and one function goes through its rows.
-use crate::daemon::edge::orders::{order_in, shell, who};
+use crate::edge::orders::{order_in, shell, who};
 use std::alloc::{AllocError, Global};
 use std::test::Fail;
 use std::time::Duration;

@@ -1,6 +1,6 @@
 //! Scripts of rounds: in each row a round or a look at what it left, and what is found, between which is `|`.
-use crate::daemon::edge::calls::is_number;
-use crate::daemon::stage::Scene;
+use crate::edge::calls::is_number;
+use crate::stage::Scene;
 use std::test::Fail;
 use up_daemon::Round;
 use up_edge::{Door, Host, Passed, ScriptDoor, Source};

@@ -1,7 +1,7 @@
 //! A client that can't be read while what it asked for goes on.
-use crate::daemon::rounds::play;
-use crate::daemon::scripted::{door, ending_host};
-use crate::daemon::stage::{Before, make_scene};
+use crate::rounds::play;
+use crate::scripted::{door, ending_host};
+use crate::stage::{Before, make_scene};
 use std::test::Fail;
 use up_edge::Failure;
 use up_model::Process;

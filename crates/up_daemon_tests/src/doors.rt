@@ -1,7 +1,7 @@
 //! Rounds over doors that fail, and over a host that fails while clients are served.
-use crate::daemon::rounds::come_to;
-use crate::daemon::scripted::{door, host, late_host};
-use crate::daemon::stage::{Before, make_scene};
+use crate::rounds::come_to;
+use crate::scripted::{door, host, late_host};
+use crate::stage::{Before, make_scene};
 use std::alloc::{AllocError, Global};
 use std::test::Fail;
 use up_edge::{Failure, ScriptDoor};

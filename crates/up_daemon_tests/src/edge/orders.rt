@@ -1,5 +1,5 @@
 //! The orders that the tests give, and the paths of their files.
-use crate::daemon::parts::{both, push};
+use crate::parts::{both, push};
 use std::alloc::{AllocError, Global};
 use std::test::Fail;
 use std::{env, process};

@@ -1,5 +1,5 @@
 //! Frames, byte by byte.
-use crate::daemon::parts::expect;
+use crate::parts::expect;
 use std::alloc::Global;
 use std::test::Fail;
 use up_model::{Answer, Command, Request};

@@ -1,5 +1,5 @@
 //! A system whose processes end strangely, and which refuses what the real one can't be made to refuse.
-use crate::daemon::edge::calls::play;
+use crate::edge::calls::play;
 use std::alloc::Allocator;
 use std::cell::Cell;
 use std::io;

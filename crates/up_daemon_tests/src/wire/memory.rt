@@ -1,8 +1,8 @@
 //! Feeds of which a request for memory may be refused: each piece gives what it gives with ample memory, or the feed takes nothing of it.
 //!
 //! `rt try --test --fail-alloc N -- memory` refuses the Nth request; `bench/faults` goes through all of them with the built tests.
-use crate::daemon::parts::expect;
-use crate::daemon::wire::frames::{START, STATUS, TOO_LARGE, UNKNOWN, count};
+use crate::parts::expect;
+use crate::wire::frames::{START, STATUS, TOO_LARGE, UNKNOWN, count};
 use std::alloc::Global;
 use std::test::Fail;
 use up_model::Answer;

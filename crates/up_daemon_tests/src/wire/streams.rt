@@ -1,6 +1,6 @@
 //! Streams that are cut, and frames of which a byte is altered.
-use crate::daemon::parts::expect;
-use crate::daemon::wire::frames::{START, STATUS};
+use crate::parts::expect;
+use crate::wire::frames::{START, STATUS};
 use std::alloc::Global;
 use std::test::Fail;
 use up_model::{Answer, Request};

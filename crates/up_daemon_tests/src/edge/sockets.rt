@@ -1,7 +1,7 @@
 //! Real sockets.
-use crate::daemon::edge::calls::{gives, is_number};
-use crate::daemon::edge::orders::path_of;
-use crate::daemon::parts::{expect, push};
+use crate::edge::calls::{gives, is_number};
+use crate::edge::orders::path_of;
+use crate::parts::{expect, push};
 use mio::net::UnixStream;
 use std::fs::{DirBuilder, metadata, remove_dir, remove_file};
 use std::io::{ErrorKind, Read, Write};

@@ -1,7 +1,7 @@
 //! Real children.
-use crate::daemon::edge::calls::{next_end, pause, play, polled};
-use crate::daemon::edge::orders::{order_in, path_of, shell, who};
-use crate::daemon::parts::{expect, push};
+use crate::edge::calls::{next_end, pause, play, polled};
+use crate::edge::orders::{order_in, path_of, shell, who};
+use crate::parts::{expect, push};
 use std::alloc::Global;
 use std::io::ErrorKind;
 use std::test::Fail;

@@ -1,5 +1,5 @@
 //! The client against peers: shells at the other end of a socket, and a stream that never has an answer.
-use crate::daemon::wire::frames::START;
+use crate::wire::frames::START;
 use std::alloc::{AllocError, Global};
 use std::io;
 use std::io::{Read, Write};

@@ -1,7 +1,7 @@
 //! Hosts and doors that play scripts. Large values are moved on or dropped by a call, here and elsewhere: the prover would go through each field
 //! of what a scope drops.
-use crate::daemon::edge::orders::who_of;
-use crate::daemon::parts::{both, push};
+use crate::edge::orders::who_of;
+use crate::parts::{both, push};
 use std::alloc::{AllocError, Global};
 use up_edge::{Failure, Script, ScriptDoor, ScriptHost, Visitor};
 use up_model::{How, Process, Who};

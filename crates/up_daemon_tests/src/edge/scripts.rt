@@ -1,6 +1,6 @@
 //! Hosts and doors that play scripts.
-use crate::daemon::edge::calls::{play, play_door};
-use crate::daemon::scripted::{End, door, host_of, push_end};
+use crate::edge::calls::{play, play_door};
+use crate::scripted::{End, door, host_of, push_end};
 use std::alloc::{AllocError, Global};
 use std::test::Fail;
 use up_edge::{DoorFault, Failure, Failures, HostFault, ScriptDoor, ScriptHost};

@@ -1,5 +1,5 @@
 //! Daemons between hosts, doors and sources that play scripts.
-use crate::daemon::parts::{both, push};
+use crate::parts::{both, push};
 use std::alloc::{AllocError, Global};
 use std::test::Fail;
 use up_conf::Folder;
