@@ -18,7 +18,7 @@ fn earlier_len(places: &[Place], job: usize) -> usize
         (λ place. nat_lt place.job job ≡ false) places.now result }
     ensures within { result ≤ length places.now }
 {
-    places.partition_point(|place| usize::from(place.job) < job)
+    places.partition_point(|place| place.job < job)
 }
 
 // Whether an event may match the `stop on` of one of these instances, each by its own file.
@@ -35,14 +35,15 @@ fn first_other(instances: &Instances, places: &[Place], event: &Event, from: usi
     requires { Rising 0 places.now }
     ensures { result ≡ first_from (has_stop instances.now event.now) from places.now }
 {
-    let mut from = from;
+    // Past the greatest job, too, there is a number.
+    let mut from = from as u128;
     for place in places {
-        let job = usize::from(place.job);
-        if from <= job {
+        let job = place.job;
+        if from <= job as u128 {
             if one_stops(instances.of_job(job), event) {
                 return Some(job);
             }
-            from = job + 1;
+            from = job as u128 + 1;
         }
     }
     None

@@ -12,7 +12,6 @@ use Rattle.up_image.specs.Reading.{HasTable, ReadsImage, head_error}
 use Rattle.up_script.specs.Bundle.{files_of, lines_of}
 use Rattle.up_print.specs.Folders.{Checks, ChecksExplained, Graphs, image_refusal_line, prints, unusable}
 use Rattle.up_disk.specs.Replay.{Plays, Prints}
-use Rattle.up_script.specs.declared.bundle.TheConstants.{MAX_BUNDLE}
 use Rattle.up_script.specs.Statements.{script_inputs}
 use Rattle.up_disk.specs.declared.walk.WalkError.TheVariants.{Unusable}
 use Rattle.up_disk.specs.Walk.{IsWalked, MayFail}
@@ -93,7 +92,7 @@ DefinesImage files image = (has_twice (read_paths files) ≡ false) × IsImage i
 
 -- a bundle has 64 MiB at most, and its files define these jobs
 abbrev pub DefinesAll : List ℕ → List JobDef → Type 0
-DefinesAll bundle jobs = (length bundle ≤ MAX_BUNDLE) × Defines (files_of (lines_of bundle)) jobs
+DefinesAll bundle jobs = (length bundle ≤ 67108864) × Defines (files_of (lines_of bundle)) jobs
 
 -- the bundle is kept exactly if its files define these jobs
 abbrev pub KeepsBundle : List ℕ → List JobDef → Option (List ℕ) → Type 0
@@ -117,7 +116,7 @@ ShowsFile image made = ((bytes : List ℕ) × ShowsBytes bytes image made) ⊎ I
 pub record PlaysOver (files : List File) (base : List (List ℕ × List ℕ)) (script : List ℕ)
     (made : Printed) : Type 0 where
   pub bytes : List ℕ
-  pub bounded : length bytes ≤ MAX_BUNDLE
+  pub bounded : length bytes ≤ 67108864
   pub plays : Plays files base script (script_inputs [] 1 bytes) made
 
 -- such a replay over the files that the folder has
@@ -132,7 +131,7 @@ PlaysDir dir base script made = PlaysFiles base script made ⊎ (CannotWalk dir 
 -- a replay of a bundle that has this path, and 64 MiB at most
 pub record PlaysBundle (path : List ℕ) (base : List (List ℕ × List ℕ)) (made : Printed) : Type 0 where
   pub bytes : List ℕ
-  pub bounded : length bytes ≤ MAX_BUNDLE
+  pub bounded : length bytes ≤ 67108864
   pub prints : Prints base path bytes made
 
 abbrev pub PlaysFile : List ℕ → List (List ℕ × List ℕ) → Printed → Type 0

@@ -1,6 +1,5 @@
 -- What a replay prints, and its status.
 use Rattle.std.specs.Prelude.{◌≡◌, ◌⊎◌, ℕ, ◌<◌, nat_le, List, [], ◌++◌, length, Option, Result, Ok, Err, if◌then◌else◌, codes}
-use Rattle.up_script.specs.declared.bundle.TheConstants.{MAX_BUNDLE}
 use Rattle.std.specs.List.{flat_map}
 use Rattle.std.specs.Io.KnownBytes.{Appends}
 use Rattle.up_conf.specs.declared.folder.File.{File}
@@ -53,7 +52,7 @@ output_by shown (Err printed) = printed
 -- compiled to these
 unfoldable pub bundle_printed : (base : List (List ℕ × List ℕ)) → (name bytes : List ℕ) → Folders (lines_of bytes) → Printed
 bundle_printed base name bytes folders =
-    if nat_le (length bytes) MAX_BUNDLE then output_by (play_run base name)
+    if nat_le (length bytes) 67108864 then output_by (play_run base name)
     (run_of folders.first (all_compiled folders.later) (inputs_in (lines_of bytes)))
     else prints (unusable name) Unusable
 

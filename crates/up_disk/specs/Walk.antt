@@ -3,7 +3,6 @@ use Rattle.std.specs.Prelude.{◌≡◌, ℕ, ◌+◌, ◌≤◌, Bool, true, na
 use Rattle.std.specs.List.{ends_with}
 use Rattle.up_conf.specs.declared.folder.File.{File}
 use Rattle.up_conf.specs.Folders.{job_name, overridden_name}
-use Rattle.up_disk.specs.declared.walk.TheConstants.{MAX_ENTRIES, MAX_READ}
 use Rattle.up_disk.specs.declared.walk.Level.{Level}
 use Rattle.up_disk.specs.declared.walk.WalkError.{WalkError}
 use Rattle.up_disk.specs.declared.walk.WalkError.TheVariants.{Unusable, Memory}
@@ -19,7 +18,7 @@ path_in dir path = (if ends_with nat_eq dir (codes "/") then dir else dir ++ cod
 -- a job file or an override, of no more bytes than show that it is too long
 pub record IsSource (file : File) : Type 0 where
   pub source : is_source file.path ≡ true
-  pub bounded : length file.bytes ≤ MAX_READ
+  pub bounded : length file.bytes ≤ 1048577
 
 -- the same files, or one more, which has this path
 abbrev pub MayAdd : List ℕ → List File → List File → Type 0
@@ -45,12 +44,12 @@ TakesPath path depth files new_files levels new_levels =
 -- the files among so many entries
 pub record Keeps (files : List File) (entries : ℕ) : Type 0 where
   pub few : length files ≤ entries
-  pub within : entries ≤ MAX_ENTRIES
+  pub within : entries ≤ 65536
   pub sources : All IsSource files
 
 -- the files of a folder on the disk
 pub record IsWalked (files : List File) : Type 0 where
-  pub few : length files ≤ MAX_ENTRIES
+  pub few : length files ≤ 65536
   pub sources : All IsSource files
 
 -- an error that names this path, if it isn't that memory ran out

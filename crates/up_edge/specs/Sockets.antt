@@ -1,12 +1,11 @@
 -- Which paths a socket may have (unix(7)), and why one is refused.
 use Rattle.std.specs.Prelude.{◌≡◌, ℕ, List, [], ◌∷◌, length, nat_lt, if◌then◌else◌, Option, Some, None, MatchOption, ⊤}
-use Rattle.up_edge.specs.declared.socket.TheConstants.{MOST_PATH}
 use Rattle.up_edge.specs.declared.socket.SocketFault.{SocketFault}
 use Rattle.up_edge.specs.declared.socket.SocketFault.TheVariants.{Empty, TooLong, Exists, Memory, Unusable}
 
 -- the most bytes of a path: 107, less the six of the name below it at which the socket is made
 abbrev pub most_path : ℕ
-most_path = MOST_PATH
+most_path = 101
 
 -- the refusal of a path that no socket can have
 abbrev pub path_refusal : List ℕ → Option SocketFault

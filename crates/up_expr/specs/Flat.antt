@@ -1,6 +1,5 @@
 -- An expression as a flat list of nodes in post-order, and what such a list says.
 use Rattle.std.specs.Prelude.{◌≡◌, ℕ, ◌+◌, ◌-◌, ◌≤◌, Bool, false, ◌&&◌, ◌||◌, List, [], ◌∷◌, ◌++◌, length, get_or, is_some}
-use Rattle.up_expr.specs.declared.flat.TheConstants.{MAX_NODES}
 use Rattle.up_expr.specs.declared.expr.Leaf.{Leaf}
 use Rattle.up_expr.specs.declared.node.Node.{Node}
 use Rattle.up_expr.specs.declared.node.Node.TheVariants as node
@@ -56,6 +55,6 @@ nodes_hold nodes sights = get_or (truths [] sights nodes) (length nodes - 1) fal
 -- right are the tree's
 pub record IsFlat (nodes : List Node) (tree : Tree) : Type 0 where
   pub laid : nodes ≡ nodes_of 0 tree
-  pub few : length nodes ≤ MAX_NODES
+  pub few : length nodes ≤ 4095
   pub means : (sights : List Sight) → nodes_hold nodes sights ≡ holds tree sights
   pub leaves : leaves_in nodes ≡ leaves_of tree

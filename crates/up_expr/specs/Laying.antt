@@ -1,6 +1,5 @@
 -- How the nodes of several expressions lie one after another.
 use Rattle.std.specs.Prelude.{◌≡◌, ℕ, ◌+◌, ◌≤◌, Bool, true, false, List, [], ◌∷◌, ◌++◌, length}
-use Rattle.up_expr.specs.declared.flat.TheConstants.{MAX_NODES}
 use Rattle.up_expr.specs.declared.node.Node.{Node}
 use Rattle.up_expr.specs.declared.node.Node.TheVariants as node
 use Rattle.up_expr.specs.Flat.{nodes_of, size}
@@ -35,4 +34,4 @@ join_node false left right = node.Or left right
 pub record AreTrees (nodes : List Node) (starts : List ℕ) : Type 0 where
   pub laid : nodes ≡ all_nodes (trees_after nodes [])
   pub begun : starts ≡ starts_of (trees_after nodes [])
-  pub few : length nodes ≤ MAX_NODES
+  pub few : length nodes ≤ 4095

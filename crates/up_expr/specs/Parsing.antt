@@ -1,6 +1,5 @@
 -- How a parser goes through the tokens of an expression, one after another.
 use Rattle.std.specs.Prelude.{ℕ, ◌+◌, Bool, nat_lt, nat_le, List, [], ◌∷◌, ◌++◌, Option, None, Some, if◌then◌else◌, length, option_map}
-use Rattle.up_expr.specs.declared.parse.TheConstants.{MAX_DEPTH, MAX_OPERATORS}
 use Rattle.up_text.specs.declared.token.Token.{Token}
 use Rattle.up_expr.specs.Trees.{Tree, One}
 use Rattle.up_expr.specs.Syntax.{join_trees}
@@ -38,7 +37,7 @@ whole None (Some tree) = Some tree
 whole (Some before) (Some tree) = Some (join_trees before.1 before.0 tree)
 
 abbrev pub after_opening : List Pending → Pending → Position → Option Parser
-after_opening outer left Before = if nat_lt (length outer) MAX_DEPTH then Some (at (left ∷ outer) None Before)
+after_opening outer left Before = if nat_lt (length outer) 256 then Some (at (left ∷ outer) None Before)
     else None
 after_opening outer left (Within tokens) = None
 after_opening outer left (After tree) = None
@@ -90,4 +89,4 @@ operators (token ∷ tokens) = if is_operator token then operators tokens + 1 el
 
 -- so few operators that the tree has at most 2,048 leaves
 abbrev pub has_few_operators : List Token → Bool
-has_few_operators tokens = nat_le (operators tokens) MAX_OPERATORS
+has_few_operators tokens = nat_le (operators tokens) 2047

@@ -4,7 +4,6 @@
 --     expr = item, then any number of: ("and" or "or") item
 --     item = "(" expr ")" or leaf
 use Rattle.std.specs.Prelude.{◌≡◌, ℕ, ◌+◌, ◌≤◌, Bool, true, false, ◌&&◌, max, List, [], ◌∷◌, ◌++◌, Option, None, Some, if◌then◌else◌, option_map}
-use Rattle.up_expr.specs.declared.parse.TheConstants.{MAX_OPERATORS, MAX_DEPTH}
 use Rattle.up_text.specs.declared.token.Token.{Token}
 use Rattle.up_expr.specs.Trees.{Tree, One, Both, Either}
 use Rattle.up_expr.specs.Values.{is_open, is_close, is_and, is_operator, leaf_of}
@@ -66,5 +65,5 @@ pub record Writes (tokens : List Token) (tree : Tree) : Type 0 where
   pub written : tokens_of syntax ≡ tokens
   pub right : is_right syntax ≡ true
   pub says : tree_in syntax ≡ Some tree
-  pub few : leaves syntax ≤ MAX_OPERATORS + 1
-  pub shallow : depth syntax ≤ MAX_DEPTH
+  pub few : leaves syntax ≤ 2048
+  pub shallow : depth syntax ≤ 256

@@ -2,7 +2,6 @@
 use Rattle.std.specs.Prelude.{◌-◌, Bool, true, false, nat_le, nat_eq, ◌&&◌, ◌||◌, not, List, [], ◌∷◌, length, take, map, Option, None, Some, if◌then◌else◌, codes}
 use Rattle.std.specs.List.{list_any, list_all, before_first, after_first, ends_with}
 use Rattle.std.specs.Str.{bytes_eq}
-use Rattle.up_expr.specs.declared.operand.TheConstants.{MAX_VALUES}
 use Rattle.up_value.specs.Values.{Bytes}
 use Rattle.up_text.specs.Names.{has_equals, is_equals, is_key, is_name}
 use Rattle.up_text.specs.declared.token.Token.{Token}
@@ -77,7 +76,7 @@ abbrev pub values_of : List Token → List Test
 values_of tokens = map (λ token. test_of token.text) tokens
 
 abbrev pub are_values : List Test → Bool
-are_values tests = list_all is_good tests && is_ordered tests && nat_le (length tests) MAX_VALUES
+are_values tests = list_all is_good tests && is_ordered tests && nat_le (length tests) 65535
 
 -- the leaf that tokens write: an event's name, then its values
 abbrev pub leaf_of : List Token → Option Leaf

@@ -8,7 +8,6 @@ use Rattle.up_conf.specs.declared.report.Fault.{Fault}
 use Rattle.up_conf.specs.Folders.{is_read, jobs_of, IsReport}
 use Rattle.up_image.specs.declared.refusal.CompileError.{CompileError}
 use Rattle.up_image.specs.declared.refusal.CompileError.TheVariants.{TooManyJobs, SameName, ImageTooLarge, Memory}
-use Rattle.up_image.specs.declared.limits.TheConstants.{MAX_JOBS}
 use Rattle.up_image.specs.Image.{has_image}
 
 -- the paths of a folder that are read
@@ -23,7 +22,7 @@ has_twice (text ∷ texts) = list_any (bytes_eq text) texts || has_twice texts
 -- what a folder is compiled to: the jobs of its readable files, and a report of the faults of the others
 pub record Compiles (files : List File) (table : List JobDef) (report : List Fault) : Type 0 where
   pub apart : has_twice (read_paths files) ≡ false
-  pub few : nat_le (length (jobs_of files)) MAX_JOBS ≡ true
+  pub few : nat_le (length (jobs_of files)) 1024 ≡ true
   pub small : has_image (jobs_of files) ≡ true
   pub jobs : table ≡ jobs_of files
   pub faults : IsReport files report
@@ -32,8 +31,8 @@ pub record Compiles (files : List File) (table : List JobDef) (report : List Fau
 abbrev pub MayRefuse : List File → CompileError → Type 0
 MayRefuse files SameName = has_twice (read_paths files) ≡ true
 MayRefuse files TooManyJobs = (has_twice (read_paths files) ≡ false)
-    × (nat_le (length (jobs_of files)) MAX_JOBS ≡ false)
+    × (nat_le (length (jobs_of files)) 1024 ≡ false)
 MayRefuse files ImageTooLarge =
-    (has_twice (read_paths files) ≡ false) × ((nat_le (length (jobs_of files)) MAX_JOBS ≡ true)
+    (has_twice (read_paths files) ≡ false) × ((nat_le (length (jobs_of files)) 1024 ≡ true)
     × (has_image (jobs_of files) ≡ false))
 MayRefuse files Memory = Unit {0}

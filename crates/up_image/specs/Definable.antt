@@ -25,7 +25,6 @@ use Rattle.up_stanza.specs.Signals.{is_signal}
 use Rattle.up_conf.specs.declared.job.JobDef.{JobDef}
 use Rattle.up_stanza.specs.Exits.{same_exit}
 use Rattle.up_conf.specs.Order.{is_below}
-use Rattle.up_image.specs.declared.limits.TheConstants.{MAX_COUNT, MAX_DEPTH, MAX_IMAGE, MAX_ITEMS, MAX_JOBS, MAX_KEYS, MAX_SECONDS}
 use Rattle.up_image.specs.Compiling.{has_twice}
 use Rattle.up_image.specs.Image.{has_image, is_countable, is_short}
 
@@ -46,12 +45,12 @@ abbrev pub is_setting : Setting → Bool
 is_setting setting = is_key setting.key && is_value_token setting.value
 
 abbrev pub can_set : List Setting → Bool
-can_set settings = nat_le (length settings) MAX_KEYS && list_all is_setting settings
+can_set settings = nat_le (length settings) 60000 && list_all is_setting settings
     && not (has_twice (map (λ setting. setting.key) settings))
 
 -- what is exported: as many keys, each once
 abbrev pub can_export : List (List ℕ) → Bool
-can_export keys = nat_le (length keys) MAX_KEYS && list_all is_key keys && not (has_twice keys)
+can_export keys = nat_le (length keys) 60000 && list_all is_key keys && not (has_twice keys)
 
 -- normal exits: a status or a signal, each once
 abbrev pub is_exit : Exit → Bool
@@ -74,7 +73,7 @@ abbrev pub is_word : List ℕ → Bool
 is_word text = is_filled text && is_utf8 text && list_all is_word_byte text
 
 abbrev pub are_words : List (List ℕ) → Bool
-are_words words = is_filled words && nat_le (length words) MAX_ITEMS && list_all is_word words
+are_words words = is_filled words && nat_le (length words) 65535 && list_all is_word words
 
 -- whether the lines of a script, up to its end line, are this text
 abbrev pub are_lines : List ℕ → Option (List (List ℕ) × List ℕ) → Bool
@@ -105,7 +104,7 @@ is_for_shell text = is_script text || is_exec text
 
 abbrev pub is_shell_text : List ℕ → Bool
 is_shell_text text =
-    nat_le (length text) MAX_IMAGE && is_utf8 text && is_value text && is_for_shell text
+    nat_le (length text) 16777216 && is_utf8 text && is_value text && is_for_shell text
 
 -- what a process runs, if anything
 abbrev pub can_run : Option Action → Bool
@@ -157,15 +156,15 @@ is_shallow depth (Either left right) =
 
 abbrev pub can_await : Option Tree → Bool
 can_await None = true
-can_await (Some tree) = are_leaves tree && is_shallow MAX_DEPTH tree && is_short (Some tree)
+can_await (Some tree) = are_leaves tree && is_shallow 256 tree && is_short (Some tree)
 
 -- a job's fields
 abbrev pub has_texts : JobDef → Bool
 has_texts job = is_name job.name && is_token job.instance && is_expandable job.instance && is_token job.dir
 
 abbrev pub has_numbers : JobDef → Bool
-has_numbers job = nat_le job.limit.count MAX_COUNT && nat_le job.limit.interval MAX_SECONDS
-    && is_signal job.kill_signal && nat_le job.kill_timeout MAX_SECONDS && is_signal job.reload_signal
+has_numbers job = nat_le job.limit.count 65535 && nat_le job.limit.interval 2147483647
+    && is_signal job.kill_signal && nat_le job.kill_timeout 2147483647 && is_signal job.reload_signal
 
 abbrev pub has_lists : JobDef → Bool
 has_lists job = can_set job.env && can_export job.export && are_exits job.normal
@@ -193,6 +192,6 @@ are_definable jobs = are_ascending (map (λ job. job.name) jobs) && list_all is_
 
 -- what the jobs of a table are: at most 1,024, as files can give them, with an image
 pub record IsTable (jobs : List JobDef) : Type 0 where
-  pub few : length jobs ≤ MAX_JOBS
+  pub few : length jobs ≤ 1024
   pub given : are_definable jobs ≡ true
   pub imaged : has_image jobs ≡ true

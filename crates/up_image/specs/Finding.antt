@@ -21,7 +21,6 @@ use Rattle.up_image.specs.declared.job_parts.Signals.{Signals}
 use Rattle.up_image.specs.declared.job_parts.Lists.{Lists}
 use Rattle.up_image.specs.declared.job_parts.Processes.{Processes}
 use Rattle.up_image.specs.declared.job_parts.Events.{Events}
-use Rattle.up_image.specs.declared.limits.TheConstants.{MAX_NODES}
 use Rattle.up_image.specs.declared.read_fault.ReadFault.{ReadFault}
 use Rattle.up_image.specs.declared.read_fault.ReadFault.TheVariants.{BadTable, Memory}
 use Rattle.up_image.specs.declared.version.Version.{Version}
@@ -170,7 +169,7 @@ one_tree (tree ∷ other ∷ trees) = None
 
 abbrev pub trees_by : ℕ × List ℕ → Found (Option Tree)
 trees_by counted =
-    if nat_le counted.0 MAX_NODES
+    if nat_le counted.0 4095
     then option_and_then (λ trees. option_map (λ tree. (tree, trees.1)) (one_tree trees.0))
     (trees_at counted.0 [] counted.1)
     else None

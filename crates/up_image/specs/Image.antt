@@ -19,7 +19,6 @@ use Rattle.up_image.specs.Texts.{text_part}
 use Rattle.up_image.specs.Versions.{version_number, fits_reload}
 use Rattle.up_image.specs.declared.version.Version.{Version}
 use Rattle.up_image.specs.declared.version.Version.TheVariants as version
-use Rattle.up_image.specs.declared.limits.TheConstants.{MAX_IMAGE, MAX_ITEMS, MAX_JOBS, MAX_NODES}
 
 -- a list: how many items it has, then the items
 abbrev pub list_part : {X : Type 0} → (X → List ℕ) → List X → List ℕ
@@ -103,7 +102,7 @@ fits_number number = nat_le number 4294967295
 
 -- whether the numbers of its items fit: 65,535 in a list, and 4,095 nodes in an expression
 abbrev pub is_countable : {X : Type 0} → List X → Bool
-is_countable xs = nat_le (length xs) MAX_ITEMS
+is_countable xs = nat_le (length xs) 65535
 
 abbrev pub fits_action : Option Action → Bool
 fits_action None = true
@@ -117,7 +116,7 @@ fits_node (node.Or left right) = true
 
 abbrev pub is_short : Option Tree → Bool
 is_short None = true
-is_short (Some tree) = nat_le (size tree) MAX_NODES
+is_short (Some tree) = nat_le (size tree) 4095
 
 abbrev pub fits_condition : Option Tree → Bool
 fits_condition condition = is_short condition && list_all fits_node (nodes_in condition)
@@ -153,15 +152,15 @@ head_of version jobs long =
 -- whether jobs have an image, of the version that is written: there are 1,024 at most, their numbers and lists fit, and the whole
 -- has 16 MiB at most
 unfoldable pub has_image : List JobDef → Bool
-has_image jobs = nat_le (length jobs) MAX_JOBS && list_all (fits version.Two) jobs
-    && nat_le (12 + length (body_of version.Two jobs)) MAX_IMAGE
+has_image jobs = nat_le (length jobs) 1024 && list_all (fits version.Two) jobs
+    && nat_le (12 + length (body_of version.Two jobs)) 16777216
 
 -- bytes are the image of jobs in a version: their head, which says how long they are, and their body; 16 MiB at most, 1,024 jobs at
 -- most, each number as large as its bytes can say, each list as long as its number can say, and in version 1 the reload signal HUP
 pub record IsVersion (version : Version) (bytes : List ℕ) (jobs : List JobDef) : Type 0 where
   pub written : bytes ≡ head_of version (length jobs) (length bytes) ++ body_of version jobs
-  pub small : length bytes ≤ MAX_IMAGE
-  pub few : length jobs ≤ MAX_JOBS
+  pub small : length bytes ≤ 16777216
+  pub few : length jobs ≤ 1024
   pub counted : list_all (fits version) jobs ≡ true
 
 -- bytes are the image of jobs that is written

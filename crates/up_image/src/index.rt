@@ -17,14 +17,14 @@ use up_text::Name;
 #[derive(Debug, Drop)]
 pub struct Place {
     pub event: Name,
-    pub job: u16,
+    pub job: usize,
     pub start: bool,
     pub node: u16,
 }
 
 fn add_leaves(
     places: &mut Vec<Place>,
-    job: u16,
+    job: usize,
     start: bool,
     nodes: &[Node],
 ) -> Result<(), AllocError>
@@ -42,7 +42,7 @@ fn add_leaves(
 // Appends the place of a node, if it is a leaf.
 fn add_leaf(
     places: &mut Vec<Place>,
-    job: u16,
+    job: usize,
     start: bool,
     at: u16,
     node: &Node,
@@ -66,7 +66,7 @@ fn add_leaf(
 
 fn add_condition(
     places: &mut Vec<Place>,
-    job: u16,
+    job: usize,
     start: bool,
     condition: &Option<Condition>,
 ) -> Result<(), AllocError>
@@ -80,7 +80,7 @@ fn add_condition(
 }
 
 // Appends the leaves of `stop on`, then those of `start on`.
-fn add_job(places: &mut Vec<Place>, at: u16, job: &JobDef) -> Result<(), AllocError>
+fn add_job(places: &mut Vec<Place>, at: usize, job: &JobDef) -> Result<(), AllocError>
     ensures { OnOk result (places.new.items ≡ places.old.items
         ++ (places_in at false job.now.stop_on ++ places_in at true job.now.start_on)) }
 {
@@ -90,34 +90,29 @@ fn add_job(places: &mut Vec<Place>, at: u16, job: &JobDef) -> Result<(), AllocEr
 }
 
 fn places_of(alloc: Global, jobs: &[JobDef]) -> Result<Vec<Place>, AllocError>
-    requires { length jobs.now ≤ MAX_JOBS }
     ensures { IfOk result (λ places. places.items ≡ places_of 0 jobs.now) }
 {
     let mut places = Vec::new(alloc);
-    let mut at = 0;
-    for job in jobs {
+    for (at, job) in jobs.iter().enumerate() {
         add_job(&mut places, at, job)?;
-        at += 1;
     }
     Ok(places)
 }
 
 /// Appends the leaves of a job's `stop on`, with `number` as their job.
-pub fn add_stops(places: &mut Vec<Place>, number: u16, job: &JobDef) -> Result<(), AllocError>
+pub fn add_stops(places: &mut Vec<Place>, number: usize, job: &JobDef) -> Result<(), AllocError>
     ensures { OnOk result (places.new.items ≡ places.old.items ++ places_in number false job.now.stop_on) }
 {
     add_condition(places, number, false, &job.stop_on)
 }
 
+/// The leaves of all jobs, of which there may be any number.
 pub fn places_of_files(alloc: Global, files: &[JobFile]) -> Result<Vec<Place>, AllocError>
-    requires { length files.now ≤ MAX_JOBS }
     ensures { IfOk result (λ places. places.items ≡ places_of 0 files.now) }
 {
     let mut places = Vec::new(alloc);
-    let mut at = 0;
-    for file in files {
+    for (at, file) in files.iter().enumerate() {
         add_job(&mut places, at, file.job())?;
-        at += 1;
     }
     Ok(places)
 }
@@ -142,7 +137,6 @@ pub fn sort_places(places: &mut Vec<Place>) -> Result<(), AllocError>
 
 /// The leaves of jobs in byte order of their events; those of one event job by job, `stop on` before `start on`.
 pub(crate) fn sorted_places(alloc: Global, jobs: &[JobDef]) -> Result<Vec<Place>, AllocError>
-    requires { length jobs.now ≤ MAX_JOBS }
     ensures { IfOk result (λ places. places.items ≡ in_order (λ place. place.event) (places_of 0 jobs.now)) }
 {
     let mut places = places_of(alloc, jobs)?;
@@ -192,7 +186,7 @@ fn runs_of(alloc: Global, places: &[Place]) -> Result<Vec<&[Place]>, AllocError>
 fn put_place(out: &mut Vec<u8>, place: &Place) -> Result<(), AllocError>
     ensures { OnOk result (out.new.items ≡ out.old.items ++ place_part place.now) }
 {
-    push_u16(out, u64::from(place.job))?;
+    push_u16(out, place.job as u64)?;
     put_byte(out, if place.start { 1 } else { 0 })?;
     push_u16(out, u64::from(place.node))?;
     Ok(())
@@ -247,7 +241,6 @@ fn put_entries(out: &mut Vec<u8>, runs: &[&[Place]]) -> Result<(), AllocError>
 /// Appends the index of jobs.
 #[tactic(auto, unfolding(crate::specs::Index::entries_of))]
 pub(crate) fn put_index(alloc: Global, out: &mut Vec<u8>, jobs: &[JobDef]) -> Result<(), AllocError>
-    requires { length jobs.now ≤ MAX_JOBS }
     ensures { OnOk result (out.new.items ≡ out.old.items ++ index_part (entries_of jobs.now)) }
 {
     let places = sorted_places(alloc, jobs)?;

@@ -1,13 +1,16 @@
 //! Why the content of an image isn't read.
 
 use std::alloc::AllocError;
+use thiserror::Error;
 
 /// Why the content of an image isn't read.
-#[derive(Clone, Copy, Debug)]
+#[derive(Clone, Copy, Debug, Error)]
 pub(crate) enum ReadFault {
     /// No image has such bytes there.
+    #[error("BadTable")]
     BadTable,
     /// Out of memory.
+    #[error("Memory")]
     Memory,
 }
 

@@ -2,7 +2,6 @@
 use Rattle.std.specs.Prelude.{ℕ, ◌≤◌, ◌==◌, false, List, [], Option, None, length, if◌then◌else◌}
 use Rattle.circular_buffer.specs.Buffer.{buffer}
 use Rattle.up_conf.specs.declared.job.JobDef.{JobDef}
-use Rattle.up_model.specs.declared.limits.TheConstants.{MAX_INSTANCES}
 use Rattle.up_model.specs.declared.state.Goal.TheVariants.{Stop}
 use Rattle.up_model.specs.declared.state.State.TheVariants.{Waiting}
 use Rattle.up_model.specs.Values.{Bytes}
@@ -69,7 +68,7 @@ without name instances = by_name.without name_of name instances
 
 -- how many instances a job may have
 abbrev pub max_instances : ℕ
-max_instances = MAX_INSTANCES
+max_instances = 1024
 
 -- why a job with these instances gets no other one
 abbrev pub refusal : List Instance → JobFault

@@ -11,7 +11,7 @@ use up_image::{Place, add_stops};
 // Appends the leaves of the `stop on` of these instances, with `number` as their job.
 fn add_stops_of(
     places: &mut Vec<Place>,
-    number: u16,
+    number: usize,
     instances: &[Instance],
 ) -> Result<(), AllocError>
     ensures { OnOk result (places.new.items ≡ places.old.items ++ stops_of number instances.now) }
@@ -26,20 +26,14 @@ fn stop_places(alloc: Global, jobs: &[JobInstances]) -> Result<Vec<Place>, Alloc
     ensures { IfOk result (λ places. places.items ≡ stop_places 0 jobs.now) }
 {
     let mut places = Vec::new(alloc);
-    let mut number: u16 = 0;
-    for job in jobs {
+    for (number, job) in jobs.iter().enumerate() {
         add_stops_of(&mut places, number, job.instances.as_slice())?;
-        match number.checked_add(1) {
-            Some(next) => number = next,
-            None => return Err(AllocError),
-        }
     }
     Ok(places)
 }
 
 impl Instances {
-    /// The leaves of the `stop on` of each instance, from its own file, with the index of its job. More jobs than can be numbered are
-    /// refused as if out of memory.
+    /// The leaves of the `stop on` of each instance, from its own file, with the index of its job.
     pub fn stop_places(&self, alloc: Global) -> Result<Vec<Place>, AllocError>
         ensures places { IfOk result (λ places. places.items ≡ stop_places 0 self.now) }
         ensures order { IfOk result (λ places. Rising 0 places.items) }

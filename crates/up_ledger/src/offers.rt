@@ -27,16 +27,6 @@ use up_marks::{Firing, Index, Offer, stop_leaves};
 use up_model::EventId;
 use up_text::{Env, Items};
 
-// The number of a job in an index, which has room for as many as a table may have.
-fn number_of(job: usize) -> Result<u16, AllocError>
-    ensures { IfOk result (λ number. number ≡ job) }
-{
-    match u16::try_from(job) {
-        Ok(number) => Ok(number),
-        Err(_) => Err(AllocError),
-    }
-}
-
 impl Past {
     ghost use Rattle.up_ledger.specs.Standing.{Forgets, event_place, instance_place};
 
@@ -126,10 +116,9 @@ impl Past {
             → Hears (trigger_in place self.old.starts.items) (trigger_in place self.new.starts.items) job.now.start_on
             (start_leaves index.now place live.event.name) id live.event env.now offer) }
     {
-        let number = number_of(place)?;
         match self.events.find(id) {
             Some(live) => {
-                let leaves = index.leaves(&live.event.name, number, true);
+                let leaves = index.leaves(&live.event.name, place, true);
                 let offer = offer_to_start(
                     &mut self.starts,
                     place,

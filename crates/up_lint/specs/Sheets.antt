@@ -8,7 +8,6 @@ use Rattle.up_stanza.specs.declared.stanza.Stanza.{Stanza}
 use Rattle.up_stanza.specs.Confs.{conf_of}
 use Rattle.up_lint.specs.declared.head.Head.{Head}
 use Rattle.up_lint.specs.declared.sheet.Spot.{Spot}
-use Rattle.up_lint.specs.declared.sheet.TheConstants.{MAX_LEN}
 use Rattle.up_lint.specs.Heads.{begins, heads_of, says}
 
 -- the path of a job's own file, or of its override
@@ -22,7 +21,7 @@ bytes_at (file ∷ files) path = if bytes_eq file.path path then file.bytes else
 
 -- a text of which the stanzas are looked at
 abbrev pub is_text : Bytes → Bool
-is_text bytes = nat_le (length bytes) MAX_LEN && is_utf8 bytes
+is_text bytes = nat_le (length bytes) 1048576 && is_utf8 bytes
 
 -- the stanzas of a file
 abbrev pub heads_in : Bool → Bytes → List Head

@@ -15,7 +15,7 @@ use crate::wanted::{Wanted, wanting_each};
 use std::alloc::{AllocError, Global};
 use std::cmp::Ordering;
 use std::marker::Model;
-use up_image::{JobFile, MAX_JOBS, places_of_files};
+use up_image::{JobFile, places_of_files};
 use up_model::Event;
 use up_text::Name;
 
@@ -52,7 +52,7 @@ fn compare(leaf: &Wanted, event: &str, value: &str, job: usize) -> Ordering
 {
     match compare_texts(leaf, event, value) {
         Ordering::Less => Ordering::Less,
-        Ordering::Equal => usize::from(leaf.place.job).cmp(&job),
+        Ordering::Equal => leaf.place.job.cmp(&job),
         Ordering::Greater => Ordering::Greater,
     }
 }
@@ -60,8 +60,12 @@ fn compare(leaf: &Wanted, event: &str, value: &str, job: usize) -> Ordering
 fn compare_leaves(leaf: &Wanted, other: &Wanted) -> Ordering
     ensures { result ≡ finding.compare (key_of leaf.now) (key_of other.now) }
 {
-    let job = usize::from(other.place.job);
-    compare(leaf, other.place.event.as_str(), other.value.as_str(), job)
+    compare(
+        leaf,
+        other.place.event.as_str(),
+        other.value.as_str(),
+        other.place.job,
+    )
 }
 
 fn sort_leaves(leaves: &mut Vec<Wanted>)
@@ -116,7 +120,7 @@ fn is_early(leaf: &Wanted, value: &str, job: usize) -> bool
 {
     match leaf.value.as_str().cmp(value) {
         Ordering::Less => true,
-        Ordering::Equal => usize::from(leaf.place.job) < job,
+        Ordering::Equal => leaf.place.job < job,
         Ordering::Greater => false,
     }
 }
@@ -151,7 +155,7 @@ fn first_wanting(leaves: &[Wanted], jobs: &[JobFile], event: &Event, value: &str
             return None;
         }
         if admits(jobs, &leaf.place, event) {
-            return Some(usize::from(leaf.place.job));
+            return Some(leaf.place.job);
         }
     }
     None
@@ -216,13 +220,10 @@ pub fn lesser_of(one: Option<usize>, other: Option<usize>) -> Option<usize>
 }
 
 impl Finder {
-    /// The finder of jobs. More jobs than a table may have are refused as if out of memory.
+    /// The finder of jobs, of which there may be any number.
     pub fn of(alloc: Global, files: &[JobFile]) -> Result<Self, AllocError>
         ensures { IfOk result (λ finder. Finds finder files.now) }
     {
-        if files.len() > MAX_JOBS {
-            return Err(AllocError);
-        }
         let places = places_of_files(alloc, files)?;
         let mut leaves = wanting_each(alloc, files, places.as_slice())?;
         sort_leaves(&mut leaves);

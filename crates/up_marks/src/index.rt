@@ -11,7 +11,7 @@ ghost use Rattle.up_marks.specs.Naming.{Rising, from_expression, rank, rank_of, 
 
 use std::alloc::{AllocError, Global};
 use std::marker::Model;
-use up_image::{JobFile, MAX_JOBS, Place, places_of_files, sort_places};
+use up_image::{JobFile, Place, places_of_files, sort_places};
 use up_text::Name;
 
 /// The leaves of all jobs. Contracts see their places in byte order of the events that they name.
@@ -72,21 +72,21 @@ fn run_of<'a>(places: &'a [Place], name: &Name) -> &'a [Place]
 }
 
 // The number of an expression in the order in which events are offered.
-fn rank(job: u16, start: bool) -> u32
+fn rank(job: usize, start: bool) -> u128
     ensures { result ≡ rank job start }
 {
-    let stops = u32::from(job) * 2;
+    let stops = job as u128 * 2;
     if start { stops + 1 } else { stops }
 }
 
-fn rank_of(place: &Place) -> u32
+fn rank_of(place: &Place) -> u128
     ensures { result ≡ rank_of place.now }
 {
     rank(place.job, place.start)
 }
 
 // The number of places of earlier expressions.
-fn earlier_len(places: &[Place], rank: u32) -> usize
+fn earlier_len(places: &[Place], rank: u128) -> usize
     requires { Rising 0 places.now }
     ensures earlier { IsPartitionPoint (λ place. nat_lt (rank_of place) rank ≡ true)
         (λ place. nat_lt (rank_of place) rank ≡ false) places.now result }
@@ -96,7 +96,7 @@ fn earlier_len(places: &[Place], rank: u32) -> usize
 }
 
 // The number of leading places of this expression.
-fn leaves_len(places: &[Place], rank: u32) -> usize
+fn leaves_len(places: &[Place], rank: u128) -> usize
     ensures counted { result ≡ prefix_len (λ place. rank_of place == rank) places.now }
     ensures within { result ≤ length places.now }
 {
@@ -107,7 +107,7 @@ fn leaves_len(places: &[Place], rank: u32) -> usize
 }
 
 // The places of this expression and later ones.
-fn later_of(places: &[Place], job: u16, start: bool) -> &[Place]
+fn later_of(places: &[Place], job: usize, start: bool) -> &[Place]
     requires { Rising 0 places.now }
     ensures { result.now ≡ from_expression job start places.now }
 {
@@ -115,7 +115,7 @@ fn later_of(places: &[Place], job: u16, start: bool) -> &[Place]
     later
 }
 
-fn leaves_of(places: &[Place], job: u16, start: bool) -> &[Place]
+fn leaves_of(places: &[Place], job: usize, start: bool) -> &[Place]
     requires { Rising 0 places.now }
     ensures { result.now ≡ of_expression job start places.now }
 {
@@ -135,7 +135,7 @@ impl Index {
         Ok(Index { places })
     }
 
-    /// The index of jobs. More jobs than a table may have are refused as if out of memory.
+    /// The index of jobs, of which there may be any number: those that a load removed count as long as they have an instance.
     pub fn of(alloc: Global, files: &[JobFile]) -> Result<Self, AllocError>
         ensures places { IfOk result (λ index. (name : Bytes)
             → named name index ≡ named name (places_of 0 files.now)) }
@@ -143,9 +143,6 @@ impl Index {
             → k < length files.now → map (λ place. place.node) (of_expression k start (named name index))
             ≡ naming_in (side_of start (slice_index_or files.now k job)) name) }
     {
-        if files.len() > MAX_JOBS {
-            return Err(AllocError);
-        }
         Index::of_places(places_of_files(alloc, files)?)
     }
 
@@ -159,7 +156,7 @@ impl Index {
     }
 
     /// Those of one expression: the `stop on` of a job, or its `start on`. Takes no memory.
-    pub fn leaves(&self, name: &Name, job: u16, start: bool) -> &[Place]
+    pub fn leaves(&self, name: &Name, job: usize, start: bool) -> &[Place]
         ensures { result.now ≡ of_expression job start (named name.now self.now) }
     {
         leaves_of(self.places(name), job, start)

@@ -19,7 +19,7 @@ pub struct Leaves {
 }
 
 impl Leaves {
-    /// The leaves of jobs. More jobs than a table may have are refused as if out of memory.
+    /// The leaves of jobs, of which there may be any number.
     pub fn of(alloc: Global, files: &[JobFile]) -> Result<Self, AllocError>
         ensures leaves { IfOk result (λ leaves. (name : Bytes) (k : ℕ) (start : Bool) (job : JobDefValue)
             → k < length files.now → map (λ place. place.node) (of_expression k start (named name leaves.by_event))

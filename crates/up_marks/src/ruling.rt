@@ -148,7 +148,7 @@ pub(crate) fn leaf_in<'a>(condition: Option<&'a Condition>, at: usize) -> Option
 pub(crate) fn leaf_at<'a>(jobs: &'a [JobFile], place: &Place) -> Option<&'a Leaf>
     ensures { option_copied result ≡ ruling.leaf_at jobs.now place.now }
 {
-    match jobs.get(usize::from(place.job)) {
+    match jobs.get(place.job) {
         Some(file) => leaf_in(side_of(file.job(), place.start), usize::from(place.node)),
         None => None,
     }

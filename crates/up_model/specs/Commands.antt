@@ -1,6 +1,5 @@
 -- What each request does (initctl(8)). Its refusals are tried in the order in which they stand, and change nothing.
 use Rattle.std.specs.Prelude.{ℕ, nat_lt, Bool, true, false, ◌&&◌, List, [], ◌∷◌, ◌++◌, Option, None, Some, codes, if◌then◌else◌, length}
-use Rattle.up_model.specs.declared.limits.TheConstants.{MAX_EVENTS}
 use Rattle.up_conf.specs.declared.job.JobDef.{JobDef}
 use Rattle.up_text.specs.Bindings.{set_all}
 use Rattle.up_text.specs.Expansion.{Expansion, Expands, Lacks, Malformed, expand}
@@ -175,7 +174,7 @@ listing config c = joined_lines (list_lines config (names_in_order config c) c)
 
 -- how many events may be in the queue before one more is refused to a client
 abbrev pub max_events : ℕ
-max_events = MAX_EVENTS
+max_events = 32768
 
 -- `emit`: an event goes to the end of the queue
 abbrev pub emit : (given : ℕ) → RequestValue → Chronicle → Outcome

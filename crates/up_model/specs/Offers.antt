@@ -1,7 +1,6 @@
 -- How the event of a turn is offered to the expressions, and what one does that fires (init(5), "start on" and "stop on").
 -- Each of these is a list of entries to be put before the chronicle, newest first.
 use Rattle.std.specs.Prelude.{ℕ, nat_lt, Bool, true, false, not, ◌||◌, ◌==◌, List, [], ◌∷◌, ◌++◌, Option, None, Some, if◌then◌else◌, length}
-use Rattle.up_model.specs.declared.limits.TheConstants.{MAX_INSTANCES}
 use Rattle.up_conf.specs.declared.job.JobDef.{JobDef}
 use Rattle.up_model.specs.declared.event.Event.{Event}
 use Rattle.up_model.specs.declared.state.Goal.TheVariants.{Start, Stop}
@@ -57,7 +56,7 @@ stop_offer_in config (instance ∷ instances) event c =
 
 -- how many instances a job may have
 abbrev pub max_instances : ℕ
-max_instances = MAX_INSTANCES
+max_instances = 1024
 
 -- the goal becomes start, with this environment and these holders: of the instance, if its goal is stop, or of a new one by this file,
 -- if the job may have one more

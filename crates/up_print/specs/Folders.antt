@@ -9,7 +9,6 @@ use Rattle.up_conf.specs.FaultCodes as fault
 use Rattle.up_conf.specs.Folders.{jobs_of, IsReport}
 use Rattle.up_model.specs.declared.exit_status.ExitStatus.{ExitStatus}
 use Rattle.up_model.specs.declared.exit_status.ExitStatus.TheVariants.{Done, Failed, Unusable}
-use Rattle.up_image.specs.declared.limits.TheConstants.{MAX_JOBS}
 use Rattle.up_image.specs.declared.refusal.CompileError.{CompileError}
 use Rattle.up_image.specs.declared.refusal.CompileError.TheVariants.{SameName, TooManyJobs, ImageTooLarge}
 use Rattle.up_image.specs.Compiling.{has_twice, read_paths}
@@ -54,7 +53,7 @@ status_of (found ∷ report) = Failed
 unfoldable pub compile_outcome : List Fault → List File → Result (List JobDef × List Fault) CompileError
 compile_outcome report files =
     if has_twice (read_paths files) then Err SameName
-    else (if not (nat_le (length (jobs_of files)) MAX_JOBS) then Err TooManyJobs
+    else (if not (nat_le (length (jobs_of files)) 1024) then Err TooManyJobs
     else (if has_image (jobs_of files) then Ok (jobs_of files, report)
     else Err ImageTooLarge))
 

@@ -5,12 +5,11 @@ use Rattle.up_daemon.specs.declared.log.Round.{Round}
 use Rattle.up_edge.specs.declared.passed.Passed.{Passed}
 use Rattle.up_edge.specs.declared.passed.Passed.TheVariants.{Accepted, Read, Wrote, Closed}
 use Rattle.up_model.specs.declared.output.Output.{Output}
-use Rattle.up_run.specs.declared.pace.TheConstants.{GROWTH, SHORT_PAUSES}
 
 -- the pause after one of so many microseconds, if so many rounds did nothing, and none is longer than so many milliseconds
 abbrev pub longer : ℕ → ℕ → ℕ → ℕ
-longer quiet next most = if nat_lt quiet SHORT_PAUSES || nat_le most (next / 1000) then next
-    else min (next + next / GROWTH) (2 ^ 64 - 1)
+longer quiet next most = if nat_lt quiet 8 || nat_le most (next / 1000) then next
+    else min (next + next / 16) (2 ^ 64 - 1)
 
 -- how many milliseconds a pause is, if so many rounds did nothing
 abbrev pub pause_of : ℕ → ℕ → ℕ → ℕ
@@ -18,7 +17,7 @@ pause_of quiet next most = if quiet == 0 then 0 else min (max (next / 1000) 1) m
 
 -- whether it is a tenth of a millisecond instead
 abbrev pub is_short : ℕ → ℕ → Bool
-is_short quiet most = nat_lt 0 most && nat_lt 0 quiet && nat_le quiet SHORT_PAUSES
+is_short quiet most = nat_lt 0 most && nat_lt 0 quiet && nat_le quiet 8
 
 -- a call of the door that found nothing to do
 abbrev pub is_nothing : Passed → Bool

@@ -14,7 +14,6 @@ use Rattle.up_model.specs.declared.who.Who.{Who}
 use Rattle.up_model.specs.Events.{process_name}
 use Rattle.up_model.specs.Requests.{command_name}
 use Rattle.up_model.specs.Signals.{signal_text}
-use Rattle.up_script.specs.declared.inputs.TheConstants.{MAX_LINES}
 use Rattle.up_script.specs.Statements.{script_inputs}
 
 -- a byte between quotes: a backslash stands before a quote and before a backslash
@@ -100,4 +99,4 @@ script_of inputs = script_after 0 inputs
 
 -- a script can't say these inputs: their lines are too long, or are read as others, since one has a value with a line feed, say
 abbrev pub IsUnsaid : List Input → Type 0
-IsUnsaid inputs = (MAX_LINES < length (script_of inputs)) ⊎ (script_inputs [] 1 (script_of inputs) ≢ Ok inputs)
+IsUnsaid inputs = (67108864 < length (script_of inputs)) ⊎ (script_inputs [] 1 (script_of inputs) ≢ Ok inputs)

@@ -1,7 +1,6 @@
 -- What a process runs (init(5), `exec` and `script`).
 use Rattle.std.specs.Prelude.{ℕ, Bool, ◌==◌, nat_le, if◌then◌else◌, List, ◌++◌, length, Option, None, Some, codes}
 use Rattle.std.specs.List.{list_any}
-use Rattle.up_stanza.specs.declared.command.TheConstants.{MAX_WORDS}
 use Rattle.up_value.specs.Values.{Bytes}
 use Rattle.up_text.specs.Scripts.{words_in}
 use Rattle.up_stanza.specs.declared.action.Action.{Action}
@@ -13,7 +12,7 @@ is_shell byte = list_any (λ special. special == byte) (codes "~`!$^&*()=|\\{}[]
 
 -- words to run, 65,535 at most
 abbrev pub words_action : List Bytes → Option Action
-words_action words = if nat_le (length words) MAX_WORDS then Some (Words words) else None
+words_action words = if nat_le (length words) 65535 then Some (Words words) else None
 
 -- what the text of a command says: words if it needs no shell
 unfoldable pub action_of : Bytes → Option Action

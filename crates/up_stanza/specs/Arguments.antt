@@ -1,7 +1,6 @@
 -- What a stanza says whose arguments are the tokens up to its end (init(5)).
 use Rattle.std.specs.Prelude.{ℕ, if◌then◌else◌, List, [], ◌∷◌, Option, None, Some, option_map, option_and_then, codes}
 use Rattle.std.specs.Str.{bytes_eq}
-use Rattle.up_stanza.specs.declared.listed.TheConstants.{MAX_COUNT, MAX_SECONDS}
 use Rattle.up_value.specs.Values.{Bytes}
 use Rattle.up_stanza.specs.declared.kind.Listed.{Listed}
 use Rattle.up_stanza.specs.declared.kind.Listed.TheVariants as listed
@@ -62,7 +61,7 @@ unlimited text = if bytes_eq text (codes "unlimited") then Some (record { count 
 abbrev pub limit_of : List Bytes → Option Limit
 limit_of [] = None
 limit_of (text ∷ []) = unlimited text
-limit_of (count ∷ interval ∷ []) = limit_by (number_in 0 MAX_COUNT count) (number_in 0 MAX_SECONDS interval)
+limit_of (count ∷ interval ∷ []) = limit_by (number_in 0 65535 count) (number_in 0 2147483647 interval)
 limit_of (count ∷ interval ∷ third ∷ others) = None
 
 -- a `respawn` alone, or `respawn limit`
@@ -76,7 +75,7 @@ abbrev pub kill_of : List Bytes → Option Stanza
 kill_of [] = None
 kill_of (text ∷ texts) =
     if bytes_eq text (codes "timeout")
-    then option_map KillTimeout (option_and_then (number_in 0 MAX_SECONDS) (single texts))
+    then option_map KillTimeout (option_and_then (number_in 0 2147483647) (single texts))
     else (if bytes_eq text (codes "signal")
     then option_map KillSignal (option_and_then signal_in (single texts))
     else None)

@@ -2,7 +2,6 @@
 use Rattle.std.specs.Prelude.{ℕ, ◌+◌, Bool, ◌==◌, nat_le, ◌&&◌, not, if◌then◌else◌, List, [], ◌∷◌, length, Option, None, Some, Result, Ok, Err}
 use Rattle.std.specs.List.{list_any}
 use Rattle.std.specs.Str.{is_utf8}
-use Rattle.up_stanza.specs.declared.conf.TheConstants.{MAX_LEN, MAX_KEYS}
 use Rattle.up_value.specs.Values.{Bytes}
 use Rattle.up_text.specs.Places.{start}
 use Rattle.up_stanza.specs.declared.stanza.Stanza.{Stanza}
@@ -11,7 +10,7 @@ use Rattle.up_stanza.specs.Stanzas.{Readable, stanzas_of}
 
 -- bytes that may be read: UTF-8 without the byte 0, 1 MiB at most
 unfoldable pub is_readable : Bytes → Bool
-is_readable bytes = nat_le (length bytes) MAX_LEN && not (list_any (λ byte. byte == 0) bytes) && is_utf8 bytes
+is_readable bytes = nat_le (length bytes) 1048576 && not (list_any (λ byte. byte == 0) bytes) && is_utf8 bytes
 
 -- how many keys a stanza sets
 abbrev pub keys_set : Stanza → ℕ
@@ -30,8 +29,8 @@ total count (stanza ∷ stanzas) = count stanza + total count stanzas
 
 -- a file sets at most 30,000 keys and exports as many
 abbrev pub has_few_keys : List Stanza → Bool
-has_few_keys stanzas = nat_le (total keys_set stanzas) MAX_KEYS
-    && nat_le (total keys_exported stanzas) MAX_KEYS
+has_few_keys stanzas = nat_le (total keys_set stanzas) 30000
+    && nat_le (total keys_exported stanzas) 30000
 
 -- the stanzas, but at an unreadable one its line
 abbrev pub stanzas_unless : List Stanza → Option ℕ → Result (List Stanza) ℕ

@@ -1,7 +1,6 @@
 -- The grammar of a job file (init(5)): which stanzas its text writes.
 use Rattle.std.specs.Prelude.{◌≡◌, ◌⊎◌, ℕ, ◌+◌, true, false, List, [], ◌∷◌, length, map, None, Some, codes}
 use Rattle.std.specs.List.{concat, list_all}
-use Rattle.up_stanza.specs.declared.listed.TheConstants.{MAX_SECONDS}
 use Rattle.up_value.specs.Values.{Bytes}
 use Rattle.up_text.specs.declared.token.Token.{Token}
 use Rattle.up_text.specs.Commands.{command_marks_at, command_in}
@@ -112,7 +111,7 @@ StandsAt place (NormalExit exits) after =
     (texts : List Bytes) × (is_filled texts ≡ true) × (map exit_in texts ≡ map Some exits)
     × IsListed (codes "normal") (codes "exit" ∷ texts) place after
 StandsAt place (KillTimeout seconds) after =
-    (text : Bytes) × (number_in 0 MAX_SECONDS text ≡ Some seconds)
+    (text : Bytes) × (number_in 0 2147483647 text ≡ Some seconds)
     × IsListed (codes "kill") (codes "timeout" ∷ text ∷ []) place after
 StandsAt place (KillSignal signal) after =
     (text : Bytes) × (signal_in text ≡ Some signal)

@@ -3,56 +3,63 @@ ghost use Rattle.std.specs.Prelude.{◌≡◌, codes};
 ghost use Rattle.up_stanza.specs.FaultCodes.{number_of, name_of};
 
 use std::alloc::AllocError;
-use std::error::Error as StdError;
-use std::fmt;
 use thiserror::Error;
 
 /// Why a file isn't read.
-#[derive(Clone, Copy, Debug, PartialEq, Eq)]
+#[derive(Clone, Copy, Debug, PartialEq, Eq, Error)]
 pub enum FaultCode {
     /// A stanza is unknown.
+    #[error("UnknownStanza")]
     UnknownStanza,
     /// A stanza is known but not supported.
+    #[error("NotInProfile")]
     NotInProfile,
     /// A token is missing.
+    #[error("ExpectedToken")]
     ExpectedToken,
     /// There is a token too many.
+    #[error("UnexpectedToken")]
     UnexpectedToken,
     /// A quote is still open at the end of the text.
+    #[error("UnterminatedQuote")]
     UnterminatedQuote,
     /// A block is still open at the end of the text.
+    #[error("UnterminatedBlock")]
     UnterminatedBlock,
     /// The text ends with a backslash.
+    #[error("TrailingBackslash")]
     TrailingBackslash,
     /// An expression of events isn't well formed.
+    #[error("BadExpression")]
     BadExpression,
     /// A positional value comes after a keyed one.
+    #[error("ValueBeforeKey")]
     ValueBeforeKey,
     /// A number isn't well formed or is out of range.
+    #[error("BadNumber")]
     BadNumber,
     /// A signal is unknown.
+    #[error("BadSignal")]
     BadSignal,
     /// A name contains a byte that isn't allowed.
+    #[error("BadName")]
     BadName,
     /// A pattern isn't well formed.
+    #[error("BadPattern")]
     BadPattern,
     /// An expansion isn't well formed.
+    #[error("BadExpansion")]
     BadExpansion,
     /// The bytes aren't text.
+    #[error("NotText")]
     NotText,
     /// The file is too large.
+    #[error("TooLarge")]
     TooLarge,
     /// Out of memory. This isn't a fault of the file.
+    #[error("Memory")]
     Memory,
 }
-
-impl fmt::Display for FaultCode {
-    fn fmt<W: fmt::Write>(&self, f: &mut fmt::Formatter<W>) -> fmt::Result {
-        f.write_str(self.name())
-    }
-}
-
-impl StdError for FaultCode {}
 
 impl FaultCode {
     /// The number of this code in a report.

@@ -103,7 +103,8 @@ impl<'a> Lexer<'a> {
         after_gap(self.rest, self.line, self.inside, self.depth).0
     }
 
-    /// Sets whether parentheses are tokens of their own from here on. None counts as open then.
+    /// Sets whether parentheses are tokens of their own from here on. None counts as open then. Forgets a fault of `next` too: `a(b"` is
+    /// one unterminated token, and where parentheses are tokens its first one is `a`.
     pub fn parens(&mut self, on: bool)
         ensures { self.new ≡ with_parens on self.old }
     {
@@ -111,8 +112,9 @@ impl<'a> Lexer<'a> {
         self.depth = 0;
     }
 
-    /// The next token, or `None` at the end of a stanza and at the end of the text. After a failure the same call fails again at the same
-    /// token; another call may be able to read from there. After running out of memory the same call reads the token again.
+    /// The next token, or `None` at the end of a stanza and at the end of the text. After a failure each further `next` fails in the same
+    /// way, until a call of another kind: `parens`, `command_text` and `script_lines` go on from the same place by rules of their own. After
+    /// running out of memory `next` reads the token again.
     pub fn next(&mut self, alloc: Global) -> Result<Option<Token>, TextFault>
         ensures { Answers self.old (reading self.old) result self.new }
     {
@@ -134,8 +136,8 @@ impl<'a> Lexer<'a> {
     }
 
     /// The rest of the stanza as it is written: quotes and backslashes stay, the comment and the blanks at both ends are removed, and each
-    /// run of blanks that contains a line end becomes one space. The stanza's end is not passed. An incomplete text fails again in the same
-    /// call; after running out of memory the same call reads it again.
+    /// run of blanks that contains a line end becomes one space. The stanza's end is not passed. After a failure each further `command_text`
+    /// fails in the same way; after running out of memory it reads the text again.
     pub fn command_text(&mut self, alloc: Global) -> Result<Text, TextFault>
         ensures { ReadsCommand self.old result self.new }
     {

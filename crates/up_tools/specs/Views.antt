@@ -15,7 +15,6 @@ use Rattle.up_chart.specs.Svg.{svg_of}
 use Rattle.up_disk.specs.Disk.{CannotWalk, Defines, IsRefusedImage, IsUnusable}
 use Rattle.up_disk.specs.Walk.{IsWalked}
 use Rattle.up_print.specs.declared.printed.Printed.{Printed}
-use Rattle.up_script.specs.declared.bundle.TheConstants.{MAX_BUNDLE}
 use Rattle.up_script.specs.Bundle.{files_of, lines_of}
 use Rattle.up_print.specs.Folders.{IsTable, PrintsFaults, prints}
 use Rattle.up_disk.specs.declared.bundle.BundleRun.{BundleRun}
@@ -55,7 +54,7 @@ Views how files name (Err line) made = Plays files [] name (Err line) made
 -- what is printed of a record, which has 64 MiB at most, over these files
 pub record ViewsOver (how : View) (files : List File) (name : Bytes) (made : Printed) : Type 0 where
   pub bytes : Bytes
-  pub bounded : length bytes ≤ MAX_BUNDLE
+  pub bounded : length bytes ≤ 67108864
   pub views : Views how files name (script_inputs [] 1 bytes) made
 
 -- the same over the files that a folder has
@@ -105,7 +104,7 @@ viewed_run how name run = viewed_by how name run.table run.faults run.read
 -- what is printed of a record that is a bundle, which has 64 MiB at most: what the refusal of one of its folders prints, or this
 pub record ViewsBundle (how : View) (name : Bytes) (made : Printed) : Type 0 where
   pub bytes : Bytes
-  pub bounded : length bytes ≤ MAX_BUNDLE
+  pub bounded : length bytes ≤ 67108864
   pub run : Result BundleRun Printed
   pub compiles : Compiles bytes run
   pub same : made ≡ output_by (viewed_run how name) run

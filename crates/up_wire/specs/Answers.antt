@@ -1,7 +1,6 @@
 -- The bytes by which a client is answered: frames whose payload is a byte and text. Full frames say that more follows, and the last one
 -- whether the request succeeded.
 use Rattle.std.specs.Prelude.{◌≡◌, ◌≤◌, ◌-◌, ◌*◌, ◌/◌, ◌==◌, ◌&&◌, ◌||◌, not, ℕ, zero, suc, Bool, true, false, List, [], ◌∷◌, ◌++◌, length, take, drop, Option, None, Some, option_map, Result, Ok, Err, if◌then◌else◌}
-use Rattle.up_wire.specs.declared.answers.TheConstants.{MAX_CHUNK}
 use Rattle.std.specs.List.{flat_map, AllByRecursion}
 use Rattle.std.specs.Str.{is_utf8}
 use Rattle.up_model.specs.declared.request.Answer.{Answer}
@@ -16,7 +15,7 @@ use Rattle.up_wire.specs.Frames.{max_payload, frame, is_partial, IsFaulty}
 
 -- the text of a full frame
 abbrev pub max_chunk : ℕ
-max_chunk = MAX_CHUNK
+max_chunk = 65535
 
 abbrev pub chunk_frame : Bytes → Bytes
 chunk_frame chunk = frame (2 ∷ chunk)

@@ -1,6 +1,5 @@
 -- The bytes by which a client asks. A frame is the length of its payload, four bytes with the highest first, and its payload.
 use Rattle.std.specs.Prelude.{◌≡◌, ◌≤◌, ◌<◌, ◌+◌, ◌&&◌, ◌||◌, ℕ, Bool, true, false, nat_le, nat_lt, List, ◌∷◌, ◌++◌, length}
-use Rattle.up_wire.specs.declared.frames.TheConstants.{MAX_PAYLOAD}
 use Rattle.std.specs.List.{list_all, flat_map, AllByRecursion}
 use Rattle.std.specs.Str.{is_utf8}
 use Rattle.byteorder.specs.Endian.{big_bytes, big_number}
@@ -14,7 +13,7 @@ use Rattle.up_wire.specs.declared.fault.FrameFault.TheVariants.{TooLarge, Malfor
 
 -- the greatest length of a payload
 abbrev pub max_payload : ℕ
-max_payload = MAX_PAYLOAD
+max_payload = 65536
 
 abbrev pub frame : Bytes → Bytes
 frame payload = big_bytes 4 (length payload) ++ payload
