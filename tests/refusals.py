@@ -258,10 +258,10 @@ def words_of_a_client(work):
         made = subprocess.run([INITCTL, "--socket", work / "s", *words], capture_output=True, text=True, timeout=30)
         return made.stderr, made.returncode
 
-    check("a bad variable", said("start", "a", "A=1", "b"), ("initctl: Bad word: b\n", 1))
-    check("a bad key", said("start", "a", "1=2"), ("initctl: Bad word: 1=2\n", 1))
-    check("a bad name", said("emit", "a b"), ("initctl: Bad word: a b\n", 1))
-    check("a large request", said("emit", "a", "A=" + "x" * 70_000), ("initctl: Request too large\n", 1))
+    check("a bad variable", said("start", "a", "A=1", "b"), ("initctl: Bad word\n  neither a name nor KEY=VALUE: b\n", 1))
+    check("a bad key", said("start", "a", "1=2"), ("initctl: Bad word\n  neither a name nor KEY=VALUE: 1=2\n", 1))
+    check("a bad name", said("emit", "a b"), ("initctl: Bad word\n  neither a name nor KEY=VALUE: a b\n", 1))
+    check("a large request", said("emit", "a", "A=" + "x" * 70_000), ("initctl: Bad word\n  the request is too large\n", 1))
     text, status = said("start", "--socket", "x", "web")
     check("an option that stands too late", ("'--socket PATH' comes before the command" in text, "-- --socket" in text, status), (True, False, 2))
     helped = subprocess.run([INITCTL, "--help"], capture_output=True, text=True, timeout=30).stdout

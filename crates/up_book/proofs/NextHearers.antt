@@ -338,7 +338,7 @@ one-same places c event (k ∷ ks) (x ∷ xs) same =
     ap (λ (s : Summary). may_match_in s.file.stop_on event.name event.vars || one_stops event ks) first
     ∙ ap (λ (b : Bool). may_match_in x.file.stop_on event.name event.vars || b) (one-same places c event ks xs rest)
 
-one-stops : (places : Places) (its : List JobInstances) (config : Configuration) (c : Chronicle) (event : Event) (n : ℕ) (job : JobDef) → KeepsJobs places its config c → job_at config n ≡ Some job
+pub one-stops : (places : Places) (its : List JobInstances) (config : Configuration) (c : Chronicle) (event : Event) (n : ℕ) (job : JobDef) → KeepsJobs places its config c → job_at config n ≡ Some job
     → one_stops event (instances_at n its) ≡ one_hears (Some event) (instances_of job.name c)
 one-stops places its config c event n job keeps there =
     let summed = map-nth (job_summary c) n config.jobs job (job-there config n job there) in

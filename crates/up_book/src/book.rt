@@ -1,8 +1,8 @@
 //! What an engine keeps of the past, in whatever form.
-ghost use Rattle.std.specs.Prelude.{◌≡◌, ◌≤◌, ◌<◌, ℕ, true, false, List, ◌∷◌, ◌++◌, [], map, length, Option, None, Some, is_some, option_map, OnOk, IsOk, IfOk, IfSome};
+ghost use Rattle.std.specs.Prelude.{◌≡◌, ◌≤◌, ◌<◌, ◌||◌, ℕ, true, false, List, ◌∷◌, ◌++◌, [], map, length, Option, None, Some, is_some, option_map, OnOk, IsOk, IfOk, IfSome};
 ghost use Rattle.std.specs.Option.{option_copied, option_map_or};
 ghost use Rattle.up_book.specs.declared.holders.Holders.{Holders as HoldersValue};
-ghost use Rattle.up_book.specs.Hearers.{IsNextHearer};
+ghost use Rattle.up_book.specs.Hearers.{IsNextHearer, one_hears};
 ghost use Rattle.up_book.specs.Histories.{HoldersAt, KeepsPlaces, OfEvent, OfFiled, OfHeld, OfHeldMaking, OfInstance, OfMaking, OfStartOffer, OfStopOffer, OfWhole, PassesBy, after_leaving, after_making, after_release, start_events, stop_events};
 ghost use Rattle.up_model.specs.Predicates.{is_waiting};
 ghost use Rattle.up_book.specs.Keeps.{AreDistinct};
@@ -20,6 +20,7 @@ ghost use Rattle.up_model.specs.Clock as clock;
 ghost use Rattle.up_model.specs.Configuration.{Configuration, job_named};
 ghost use Rattle.up_model.specs.Loads.{with_jobs};
 ghost use Rattle.up_job.specs.Named.{AreInOrder};
+ghost use Rattle.up_marks.specs.Ruling.{may_hear};
 ghost use Rattle.up_book.specs.Keys.{name_of};
 ghost use Rattle.up_model.specs.Due.{turn_event, telling};
 ghost use Rattle.up_model.specs.Files.{names_in_order};
@@ -333,6 +334,14 @@ pub trait Book: Drop {
             → jobs.now ≡ config.jobs
             → event_place self.now c event ≡ Some e → IsNextHearer config (read.event_at e c) c from result }
         ensures later { IfSome result (λ next. from ≤ next) };
+
+    /// Whether an expression in force of the job at an index of the table may match an event: its `start on`, or the `stop on` of one of
+    /// its instances. Takes no memory.
+    fn hears(&self, index: usize, file: &JobFile, event: EventId) -> bool
+        ensures { (config : Configuration) (c : Chronicle) (e : ℕ) → stands self.now Stepping config c
+            → job_at config index ≡ Some file.now → event_place self.now c event ≡ Some e
+            → result ≡ (may_hear file.now.start_on (read.event_at e c)
+            || one_hears (read.event_at e c) (instances_of file.now.name c)) };
 
     /// No two instances of a job have the same name. Does nothing.
     fn names_differ(&self)

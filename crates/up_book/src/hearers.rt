@@ -1,14 +1,16 @@
 //! Which jobs have an instance that hears of an event.
-ghost use Rattle.std.specs.Prelude.{◌≡◌, ◌≤◌, length, nat_lt, true, false};
+ghost use Rattle.std.specs.Prelude.{◌≡◌, ◌≤◌, ◌||◌, length, map, nat_lt, true, false};
 ghost use Rattle.std.specs.List.Sorted.{IsPartitionPoint};
 ghost use Rattle.up_book.specs.Hearers.{first_from, has_stop, one_stops};
 ghost use Rattle.up_image.specs.Index.{named};
 ghost use Rattle.up_marks.specs.Finding.{IsNextJob};
-ghost use Rattle.up_marks.specs.Naming.{Rising};
+ghost use Rattle.up_marks.specs.Naming.{Rising, naming_in};
+ghost use Rattle.up_marks.specs.Ruling.{may_match_in};
 
+use up_conf::JobDef;
 use up_image::Place;
 use up_job::{Instance, Instances};
-use up_marks::{Index, may_stop};
+use up_marks::{Index, may_start, may_stop};
 use up_model::Event;
 
 // The number of places of earlier jobs.
@@ -28,6 +30,16 @@ fn one_stops(instances: &[Instance], event: &Event) -> bool
     instances
         .iter()
         .any(|instance| may_stop(&instance.file, event))
+}
+
+/// Whether an event may match a job's `start on`, whose leaves that name it are these, or the `stop on` of one of its instances. Takes no
+/// memory.
+pub fn is_hearer(job: &JobDef, leaves: &[Place], instances: &[Instance], event: &Event) -> bool
+    ensures { map (λ place. place.node) leaves.now ≡ naming_in job.now.start_on event.now.name
+        → result ≡ (may_match_in job.now.start_on event.now.name event.now.vars || one_stops event.now instances.now) }
+{
+    let starts = may_start(job, leaves, event);
+    starts || one_stops(instances, event)
 }
 
 // The job of the first of these places with an instance that an event may stop. Checks each job once.

@@ -7,6 +7,6 @@ mod holders;
 mod orders;
 
 pub use book::Book;
-pub use hearers::next_other;
+pub use hearers::{is_hearer, next_other};
 pub use holders::Holders;
 pub use orders::{action_of, order_of, signal_of};

@@ -13,7 +13,7 @@ use Rattle.up_marks.specs.Skipping.{Stops, Starts}
 use Rattle.up_marks.proofs.Ruled.{unheard-offer, holds-unheard}
 use Rattle.up_model.specs.declared.event_id.EventId.{EventId}
 use Rattle.up_model.specs.Readings.{entry_at, event_of, event_at, file_of}
-use Rattle.up_book.specs.Hearers.{AreDeaf, IsDeaf, hears, one_hears}
+use Rattle.up_book.specs.Hearers.{AreDeaf, IsDeaf, one_hears}
 use Rattle.up_book.specs.Keys.{job_at, instance_at, instance_place}
 use Rattle.up_book.proofs.Keyed.{job-there}
 use Rattle.up_cascade.specs.Unheard.{AreUnheard, NoneHears}
@@ -277,9 +277,35 @@ heard-last stands places config e event c h = subst stands (sym (h.same ∙ ap (
     none [] sum = refl
     none (job ∷ todo) sum = absurd (omega (arith, sum, h.count))
 
+-- no instance hears of an event if each is deaf to it, and the other way round
+deaf-none : (event : Option Event) (its : List Instance) → AreDeaf event its → one_hears event its ≡ false
+deaf-none event [] deaf = refl
+deaf-none event (x ∷ its) deaf = ap (λ (b : Bool). b || one_hears event its) deaf.0 ∙ deaf-none event its deaf.1
+
+or-first : (a b : Bool) → (a || b) ≡ false → a ≡ false
+or-first true b none = none
+or-first false b none = refl
+
+or-rest : (a b : Bool) → (a || b) ≡ false → b ≡ false
+or-rest true b none = absurd cc
+or-rest false b none = none
+
+none-deaf : (event : Option Event) (its : List Instance) → one_hears event its ≡ false → AreDeaf event its
+none-deaf event [] none = tt
+none-deaf event (x ∷ its) none =
+    let mine = may_hear x.file.stop_on event in
+    (or-first mine (one_hears event its) none, none-deaf event its (or-rest mine (one_hears event its) none))
+
+pub deaf : (job : JobDef) (event : Option Event) (c : Chronicle) → (may_hear job.start_on event || one_hears event (instances_of job.name c)) ≡ false → IsDeaf job event c
+deaf job event c none =
+    let starts = may_hear job.start_on event in
+    let stops = one_hears event (instances_of job.name c) in
+    (or-first starts stops none, none-deaf event (instances_of job.name c) (or-rest starts stops none))
+
 -- no job hears of an event of which none does
 pub hears-none : (config : Configuration) (n : ℕ) (job : JobDef) (event : Option Event) (c : Chronicle) → NoneHears config event c → job_at config n ≡ Some job
-    → (hears job event || one_hears event (instances_of job.name c)) ≡ true → ⊥
+    → (may_hear job.start_on event || one_hears event (instances_of job.name c)) ≡ true → ⊥
 hears-none config n job event c none there heard =
-    let both : true ≡ false = sym heard ∙ none n job there in
+    let its = none n job there in
+    let both : true ≡ false = sym heard ∙ ap (λ (b : Bool). b || one_hears event (instances_of job.name c)) its.0 ∙ deaf-none event (instances_of job.name c) its.1 in
     absurd cc

@@ -1,6 +1,7 @@
 //! How each job hears of the event that a turn takes up.
 ghost use Rattle.std.specs.Prelude.{◌≡◌, ◌≤◌, ◌<◌, ◌||◌, ℕ, true, ◌++◌, [], length, Some, IsOk, IfOk, IfSome, MatchOption, OnOk};
-ghost use Rattle.up_book.specs.Hearers.{hears, one_hears};
+ghost use Rattle.up_book.specs.Hearers.{one_hears};
+ghost use Rattle.up_marks.specs.Ruling.{may_hear};
 ghost use Rattle.up_book.specs.Histories.{KeepsPlaces, OfEvent, OfOffer};
 ghost use Rattle.up_book.specs.Keys.{Stepping, job_at, name_at};
 ghost use Rattle.up_cascade.specs.Histories.{taken_up};
@@ -154,22 +155,25 @@ fn next_hearer<'a, B: Book>(
         MatchOption result (AreUnheard setup.now (event_at e c) c from (length setup.now.jobs)) (λ found.
         (job_at setup.now found.0 ≡ Some found.1.now) × AreUnheard setup.now (event_at e c) c from found.0)) }
     ensures hears { OfEvent (B.stands book.now Stepping) (B.event_place book.now) setup.now event (λ c e. IfSome
-        result (λ found. (hears found.1.now (event_at e c) || one_hears (event_at e c) (instances_of
+        result (λ found. (may_hear found.1.now.start_on (event_at e c) || one_hears (event_at e c) (instances_of
         found.1.now.name c)) ≡ true)) }
     ensures within { IfSome result (λ found. (from ≤ found.0) × (found.0 < length setup.now.jobs)
         × (found.0 < 18446744073709551615)) }
 {
     let jobs = setup.jobs();
-    match book.next_hearer(jobs, event, from) {
-        Some(index) => {
-            if index < jobs.len() {
-                Some((index, &jobs[index]))
-            } else {
-                None
-            }
+    let mut from = from;
+    // A job may be found by its file's `stop on` that has no instance.
+    'candidates: while let Some(index) = book.next_hearer(jobs, event, from) {
+        if index >= jobs.len() {
+            return None;
         }
-        None => None,
+        let file = &jobs[index];
+        if book.hears(index, file, event) {
+            return Some((index, file));
+        }
+        from = index + 1;
     }
+    None
 }
 
 /// Each job hears of the event that a turn takes up, one after another. The jobs that don't name it, or that rule it out by the literal

@@ -1,5 +1,5 @@
 -- What is sent, and what is heard.
-use Rattle.std.specs.Prelude.{◌≡◌, ◌<◌, ◌++◌, ℕ, true, length, Option, None, Some, Result, Ok, Err, Vec}
+use Rattle.std.specs.Prelude.{◌≡◌, ◌<◌, ◌++◌, ℕ, true, length, Option, None, Some, Result, Ok, Err, Vec, codes}
 use Rattle.std.specs.Str.{is_utf8}
 use Rattle.up_model.specs.Requests.{RequestValue}
 use Rattle.up_model.specs.declared.request.Answer.{Answer}
@@ -18,6 +18,12 @@ IsSent (Err FrameTooLarge) wanted = (request : RequestValue) × (wanted ≡ Some
 IsSent (Err BadFrame) wanted = ⊥
 IsSent (Err BadWord) wanted = wanted ≡ None
 IsSent (Err Memory) wanted = Unit {0}
+
+-- the path of the socket (initctl(8), --socket and ENVIRONMENT): the option's, else that of the environment, else the default
+abbrev pub socket_of : (option variable : Option Bytes) → Bytes
+socket_of (Some path) variable = path
+socket_of None (Some path) = path
+socket_of None None = codes "/run/initd.socket"
 
 -- the bytes begin with the frames of an answer
 abbrev pub BeginsWith : Bytes → Answer → Type 0

@@ -1,11 +1,11 @@
 //! The client: its command line, its socket, its output and its exit status.
-ghost use Rattle.std.specs.Prelude.{◌≡◌, [], true, false, None, Ok, Err, IfOk, alloc_error};
+ghost use Rattle.std.specs.Prelude.{◌≡◌, [], true, false, None, Ok, Err, IfOk, alloc_error, option_map};
 ghost use Rattle.clap.specs.Words.{kind_of, rule_of, subcommand_rows_of};
 ghost use Rattle.up_model.specs.declared.exit_status.ExitStatus.TheVariants as status;
 ghost use Rattle.up_wire.specs.Usage.{IsUsage};
 ghost use Rattle.up_wire.specs.Words.{request_matched};
-ghost use Rattle.up_client.specs.Asking.{IsSent};
-ghost use Rattle.up_client.specs.Statuses.{IsEnd, IsOutcome, IsStatus};
+ghost use Rattle.up_client.specs.Asking.{IsSent, socket_of};
+ghost use Rattle.up_client.specs.Statuses.{Concludes, IsEnd, IsOutcome, IsStatus};
 ghost use Rattle.up_client.specs.Usage.{client_usage, socket_rule};
 
 use crate::talk::{TalkFault, talk};
@@ -131,6 +131,21 @@ pub fn frame_of(alloc: Global, matches: &ArgMatches) -> Result<Vec<u8>, WireFaul
     Ok(frame)
 }
 
+// Prints what was talked, and returns the status.
+fn conclude<R: Print + Eprint>(
+    rt: &R,
+    talked: Result<Answer, TalkFault>,
+) -> Result<ExitStatus, AllocError>
+    ensures outcome { IfOk result IsOutcome }
+    ensures ends { Concludes talked result }
+{
+    match talked {
+        Ok(answer) => Ok(print_answer(rt, &answer)),
+        Err(TalkFault::Lost) => Ok(fail(rt, "Connection lost")),
+        Err(TalkFault::Memory) => Err(AllocError),
+    }
+}
+
 fn ask<R: Net + Print + Eprint>(
     rt: &R,
     alloc: Global,
@@ -142,10 +157,17 @@ fn ask<R: Net + Print + Eprint>(
     let Ok(mut stream) = UnixStream::connect(rt, socket) else {
         return Ok(fail(rt, "Unable to connect"));
     };
-    match talk(alloc, &mut stream, frame) {
-        Ok(answer) => Ok(print_answer(rt, &answer)),
-        Err(TalkFault::Lost) => Ok(fail(rt, "Connection lost")),
-        Err(TalkFault::Memory) => Err(AllocError),
+    conclude(rt, talk(alloc, &mut stream, frame))
+}
+
+// The socket's path: the option's, else that of the environment, else the default.
+fn socket_of<'a>(option: Option<&'a str>, variable: Option<&'a str>) -> &'a str
+    ensures { result.now ≡ socket_of (option_map (λ path. path.now) option.entry)
+        (option_map (λ path. path.now) variable.entry) }
+{
+    match option {
+        Some(path) => path,
+        None => variable.unwrap_or(DEFAULT_SOCKET),
     }
 }
 
@@ -174,10 +196,11 @@ fn bad_word<'a>(alloc: Global, matches: &ArgMatches<'a>) -> &'a str {
     given.get_str("NAME").unwrap_or("")
 }
 
-fn refuse_word<R: Eprint>(rt: &R, word: &str) -> ExitStatus
+// Words that are no request, and on a second line why.
+fn refuse_words<R: Eprint>(rt: &R, why: &str, word: &str) -> ExitStatus
     ensures { result ≡ status.Failed }
 {
-    let _ = eprintln!(rt; "initctl: Bad word: {word}");
+    let _ = eprintln!(rt; "initctl: Bad word\n  {why}{word}");
     ExitStatus::Failed
 }
 
@@ -194,8 +217,11 @@ fn send_request<R: Net + Print + Eprint>(
     match frame_of(alloc, matches) {
         Ok(frame) => ask(rt, alloc, socket, &frame),
         Err(WireFault::Memory) => Err(AllocError),
-        Err(WireFault::FrameTooLarge) => Ok(fail(rt, "Request too large")),
-        Err(_) => Ok(refuse_word(rt, bad_word(alloc, matches))),
+        Err(WireFault::FrameTooLarge) => Ok(refuse_words(rt, "the request is too large", "")),
+        Err(_) => {
+            let word = bad_word(alloc, matches);
+            Ok(refuse_words(rt, "neither a name nor KEY=VALUE: ", word))
+        }
     }
 }
 
@@ -223,12 +249,13 @@ fn run_command<R: Net + Print + Eprint + Env + AllocGlobal>(
         Ok(matches) => matches,
         Err(error) => return print_refusal(rt, &error),
     };
-    if let Some(socket) = matches.get_str("socket") {
-        return send_request(rt, rt.alloc(), socket, &matches);
-    }
+    let option = matches.get_str("socket");
     match env::var(rt, "INITCTL_SOCKET") {
-        Ok(socket) => send_request(rt, rt.alloc(), socket.as_str(), &matches),
-        Err(_) => send_request(rt, rt.alloc(), DEFAULT_SOCKET, &matches),
+        Ok(path) => {
+            let socket = socket_of(option, Some(path.as_str()));
+            send_request(rt, rt.alloc(), socket, &matches)
+        }
+        Err(_) => send_request(rt, rt.alloc(), socket_of(option, None), &matches),
     }
 }
 

@@ -6,6 +6,7 @@ ghost use Rattle.up_client.specs.Asking.{BeginsWith, Hears};
 use std::alloc::Global;
 use std::io;
 use std::io::{ErrorKind, Read, Write};
+use thiserror::Error;
 use up_model::Answer;
 use up_wire::{AnswerFeed, WireFault};
 
@@ -15,10 +16,11 @@ pub const MAX_READS: u32 = 1_048_576;
 const READ_SIZE: usize = 65_536;
 
 /// The reason why there is no answer.
-#[derive(Clone, Copy, Debug, PartialEq, Eq)]
+#[derive(Clone, Copy, Debug, PartialEq, Eq, Error)]
 pub enum TalkFault {
-    /// The connection is lost.
+    #[error("the connection is lost")]
     Lost,
+    #[error("out of memory")]
     Memory,
 }
 

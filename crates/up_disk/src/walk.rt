@@ -10,6 +10,7 @@ use std::alloc::{AllocError, Global};
 use std::io::{Eprint, ErrorKind, Read};
 use std::rt::Files;
 use std::{fs, io};
+use thiserror::Error;
 use up_conf::{Folder, job_name, overridden_name};
 use up_print::{Printed, cannot_use};
 use up_text::{Items, Text};
@@ -36,11 +37,12 @@ const TOO_MANY: &str = "it has more than 65536 entries, including those of its s
 const NO_TEXT: &str = "an entry of it is skipped, since its name isn't UTF-8";
 
 /// Why a folder isn't read.
-#[derive(Debug, Drop)]
+#[derive(Debug, Drop, Error)]
 pub enum WalkError {
     /// This path can't be listed, or not be read in full.
+    #[error("a path can't be used")]
     Unusable(Text),
-    /// Out of memory.
+    #[error("out of memory")]
     Memory,
 }
 

@@ -24,8 +24,7 @@ pub trait Door {
         ensures reports { Reports Accepted (calls self.old) result (calls self.new) }
         ensures connects { ConnectsOnAccept (connected self.old) result (connected self.new) };
 
-    /// How many of the client's bytes were put at the start of the buffer; `None` if none has come yet, and 0 if it sends no more, or
-    /// the door reads it no more.
+    /// How many of the client's bytes were put at the start of the buffer; `None` if none has come yet, and 0 if it sends no more.
     fn read(&mut self, client: u32, buffer: &mut [u8]) -> Result<Option<usize>, DoorFault>
         ensures reports { Reports (λ found. Read client (option_map (λ count. take count buffer.new) found))
             (calls self.old) result (calls self.new) }

@@ -36,7 +36,7 @@ pub struct UnixDoor {
     poll: Poll,
     events: Events,
     clients: Slab<UnixStream>,
-    // a client that is reported to send no more once a read finds nothing
+    // a client of which a read is refused once it finds nothing
     dismissed: Option<u32>,
     // the calls that failed since the record was emptied
     failed: Vec<DoorCall>,
@@ -93,12 +93,12 @@ fn watched(poll: &Poll, mut stream: UnixStream, token: usize) -> Arrival {
     }
 }
 
-// The number of bytes that the client sent; if it sent none yet, `None`, or 0 if it is dismissed.
+// The number of bytes that the client sent; `None` if it sent none yet, unless it is dismissed: then the read is refused.
 fn receive(
     stream: &UnixStream,
     bytes: &mut [u8],
     is_dismissed: bool,
-) -> Result<Option<usize>, DoorFault>
+) -> Result<Option<usize>, DoorCall>
     ensures within { IfOk result (λ found. IfSome found (λ count. count ≤ length bytes.old)) }
     ensures dismissed { is_dismissed ≡ true → IfOk result (λ found. is_some found ≡ true) }
 {
@@ -106,10 +106,12 @@ fn receive(
     match stream.read(bytes) {
         Ok(count) => Ok(Some(count)),
         Err(error) => {
-            if is_for_later(&error) {
-                Ok(is_dismissed.then_some(0))
+            if !is_for_later(&error) {
+                Err(DoorCall::Read)
+            } else if is_dismissed {
+                Err(DoorCall::Silence)
             } else {
-                Err(DoorFault)
+                Ok(None)
             }
         }
     }
@@ -214,7 +216,7 @@ impl UnixDoor {
         self.failed.as_slice()
     }
 
-    /// Dismisses a client, or none any more: a read of it that finds nothing reports that it sends no more.
+    /// Dismisses a client, or none any more: a read of it that finds nothing is refused, and counted as a fault.
     pub fn dismiss(&mut self, client: Option<u32>)
         ensures dismissed { self.new.dismissed ≡ client }
         ensures failed { self.new.failed ≡ self.old.failed }
@@ -286,7 +288,7 @@ impl Door for UnixDoor {
                 self.journal.add(Passed::Read(client, None));
                 Ok(None)
             }
-            Err(_) => Err(self.fail_call(DoorCall::Read)),
+            Err(call) => Err(self.fail_call(call)),
         }
     }
 

@@ -20,7 +20,7 @@ use crate::past::Past;
 use crate::replies::{reply, reply_asked, reply_finished, reply_held};
 use crate::step::{ActedOn, Step, push_emitted, put};
 use std::alloc::{AllocError, Global};
-use up_book::{Book, Holders, next_other, order_of, signal_of};
+use up_book::{Book, Holders, is_hearer, next_other, order_of, signal_of};
 use up_conf::JobDef;
 use up_event::TurnKind;
 use up_image::JobFile;
@@ -420,6 +420,16 @@ impl Book for Ledger {
                 next_other(&self.others, &self.past.instances, event, from),
             ),
             None => None,
+        }
+    }
+
+    fn hears(&self, index: usize, file: &JobFile, event: EventId) -> bool {
+        match self.past.event_at(event) {
+            Some(event) => {
+                let leaves = self.index.by_event.leaves(&event.name, index, true);
+                is_hearer(file.job(), leaves, self.past.instances.of_job(index), event)
+            }
+            None => false,
         }
     }
 

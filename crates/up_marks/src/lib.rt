@@ -23,6 +23,6 @@ pub use index::{Index, stop_leaves};
 pub use leaves::Leaves;
 pub use mark::Mark;
 pub use marks::{Marks, Offer};
-pub use ruling::{admits, may_stop, rules_out};
+pub use ruling::{admits, may_start, may_stop, rules_out};
 pub use trigger::{Firing, Trigger};
 pub use up_image::Place;

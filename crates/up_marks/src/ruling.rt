@@ -1,11 +1,11 @@
 //! Which events a leaf can't match, whatever its values expand to.
-ghost use Rattle.std.specs.Prelude.{◌≡◌, option_map};
+ghost use Rattle.std.specs.Prelude.{◌≡◌, map, option_map};
 ghost use Rattle.std.specs.List.{list_any};
 ghost use Rattle.std.specs.Option.{option_copied};
 ghost use Rattle.up_expr.specs.Matching.{nth_value};
 ghost use Rattle.up_expr.specs.Values.{is_positional};
 ghost use Rattle.up_text.specs.Bindings.{value_of};
-ghost use Rattle.up_marks.specs.Naming.{side_of};
+ghost use Rattle.up_marks.specs.Naming.{naming_in, side_of};
 ghost use Rattle.up_marks.specs.Ruling as ruling;
 
 use crate::index::stop_leaves;
@@ -171,23 +171,30 @@ pub fn admits(jobs: &[JobFile], place: &Place, event: &Event) -> bool
     admits_leaf(leaf_at(jobs, place), event)
 }
 
-fn admits_stop(file: &JobFile, place: &Place, event: &Event) -> bool
-    ensures { result ≡ ruling.admits_by event.now (ruling.leaf_in file.now.stop_on place.now.node) }
+fn admits_in(job: &JobDef, start: bool, place: &Place, event: &Event) -> bool
+    ensures { result ≡ ruling.admits_by event.now (ruling.leaf_in (side_of start job.now) place.now.node) }
 {
-    let leaf = leaf_in(file.job().stop_on.as_ref(), usize::from(place.node));
-    admits_leaf(leaf, event)
+    admits_leaf(leaf_in(side_of(job, start), usize::from(place.node)), event)
 }
 
-// Whether one of the leaves at these places may match an event.
-fn one_admits(file: &JobFile, places: &[Place], event: &Event) -> bool
-    ensures { result ≡ list_any (λ place. ruling.admits_by event.now (ruling.leaf_in file.now.stop_on place.node)) places.now }
+// Whether one of the leaves at these places of an expression may match an event.
+fn one_admits(job: &JobDef, start: bool, places: &[Place], event: &Event) -> bool
+    ensures { result ≡ list_any (λ place. ruling.admits_by event.now (ruling.leaf_in (side_of start job.now) place.node)) places.now }
 {
-    places.iter().any(|place| admits_stop(file, place, event))
+    places.iter().any(|place| admits_in(job, start, place, event))
 }
 
 /// Whether an event may match a file's `stop on`: a leaf names it, and no literal value of that rules it out. Takes no memory.
 pub fn may_stop(file: &JobFile, event: &Event) -> bool
     ensures { result ≡ ruling.may_match_in file.now.stop_on event.now.name event.now.vars }
 {
-    one_admits(file, stop_leaves(file, &event.name), event)
+    one_admits(file.job(), false, stop_leaves(file, &event.name), event)
+}
+
+/// Whether an event may match a job's `start on`, whose leaves that name it are these. Takes no memory.
+pub fn may_start(job: &JobDef, leaves: &[Place], event: &Event) -> bool
+    ensures { map (λ place. place.node) leaves.now ≡ naming_in job.now.start_on event.now.name
+        → result ≡ ruling.may_match_in job.now.start_on event.now.name event.now.vars }
+{
+    one_admits(job, true, leaves, event)
 }

@@ -53,12 +53,13 @@ repeated (suc count) line = repeated count line ++ line
 unfoldable pub fault_line : List ℕ → List ℕ → List ℕ
 fault_line whose call = codes "# " ++ whose ++ codes " fault: " ++ call ++ codes "\n"
 
--- the name of a door's call
+-- the name of a door's call, or of the reason why the door refused one
 abbrev pub call_name : DoorCall → List ℕ
 call_name call.Accept = codes "accept"
 call_name call.Read = codes "read"
 call_name call.Write = codes "write"
 call_name call.Close = codes "close"
+call_name call.Silence = codes "silence"
 
 -- the comment on a call of the door that failed
 abbrev pub door_line : DoorCall → List ℕ

@@ -109,6 +109,7 @@ fn call_name(call: DoorCall) -> &'static str
         DoorCall::Read => "read",
         DoorCall::Write => "write",
         DoorCall::Close => "close",
+        DoorCall::Silence => "silence",
     }
 }
 

@@ -4,7 +4,8 @@ use std::alloc::{AllocError, Global};
 use std::fs::{File, OpenFile, remove_file, rename};
 use std::io::{Read, Write};
 use std::rt::Files;
-use std::{fmt, io};
+use std::io;
+use thiserror::Error;
 use up_disk::image::bundle_files;
 use up_disk::why::Reason;
 use up_image::Table;
@@ -26,14 +27,18 @@ pub(crate) struct Heading {
 }
 
 /// Why a record ends before its run.
-#[derive(Clone, Copy, Drop)]
+#[derive(Clone, Copy, Debug, Drop, Error)]
 pub(crate) enum Ending {
     /// No step of a script can express an input.
+    #[error("no statement of a script can express the next input")]
     Unsaid,
     /// Jobs that were loaded can't be written as job files.
+    #[error("the jobs of a reload can't be written as job files")]
     NoFiles,
     /// The system refused to write the record.
+    #[error("{}", Reason(*.0))]
     Unwritten(io::Error),
+    #[error("out of memory")]
     Memory,
 }
 
@@ -46,17 +51,6 @@ impl From<AllocError> for Ending {
 impl From<io::Error> for Ending {
     fn from(error: io::Error) -> Ending {
         Ending::Unwritten(error)
-    }
-}
-
-impl fmt::Display for Ending {
-    fn fmt<W: fmt::Write>(&self, f: &mut fmt::Formatter<W>) -> fmt::Result {
-        match self {
-            Ending::Unsaid => f.write_str("no statement of a script can express the next input"),
-            Ending::NoFiles => f.write_str("the jobs of a reload can't be written as job files"),
-            Ending::Unwritten(error) => fmt::Display::fmt(&Reason(*error), f),
-            Ending::Memory => f.write_str("out of memory"),
-        }
     }
 }
 

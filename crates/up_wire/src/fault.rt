@@ -6,11 +6,13 @@ use std::alloc::{AllocError, AllocFailed};
 use thiserror::Error;
 
 /// The fault of a frame, after which a stream can't be read any further.
-#[derive(Clone, Copy, PartialEq, Eq)]
+#[derive(Clone, Copy, Debug, PartialEq, Eq, Error)]
 pub enum FrameFault {
     /// Its length exceeds the limit.
+    #[error("the frame is too large")]
     TooLarge,
     /// Its payload has no meaning.
+    #[error("the frame can't be read")]
     Malformed,
 }
 

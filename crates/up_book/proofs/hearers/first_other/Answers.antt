@@ -14,7 +14,7 @@ loop-place-preserved c =
     let x = c.place-item.result in
     let event = c.args.event.now in
     let asks : ℕ → Bool = λ n. one_stops event (instances_at n c.args.instances.now) in
-    let job : c.from-job.result ≡ (get_or places i x).job = c.from-job.ensures ∙ ap (λ (p : Place). p.job) c.place-item.is in
+    let job : x.job ≡ (get_or places i x).job = ap (λ (p : Place). p.job) c.place-item.is in
     elim c.if-from-job.branch [
       | then-from-job+else-one_stops w ↦
           (let after : from ≤ (get_or places i x).job = omega (arith, w.if-from-job.true, job) in
