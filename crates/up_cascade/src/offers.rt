@@ -20,8 +20,8 @@ use crate::setup::Setup;
 use std::alloc::{AllocError, Global};
 use up_book::{Book, Holders};
 use up_image::JobFile;
-use up_job::InstanceKey;
-use up_model::{EventId, Goal, JobDef, MAX_INSTANCES};
+use up_job::{InstanceKey, MAX_INSTANCES};
+use up_model::{EventId, Goal, JobDef};
 use up_text::{Env, Expanded, Items, Text, TextFault, expand};
 
 /// Sets the goal to stop, with this environment and these holders.

@@ -21,8 +21,8 @@ use Rattle.up_daemon.specs.Peers.{Peer, newcomer, heard, asked, answered, IsEnte
 use Rattle.up_edge.specs.declared.passed.Passed.{Passed}
 use Rattle.up_edge.specs.declared.passed.Passed.TheVariants as passed
 use Rattle.up_daemon.specs.Exchanges.{Exchange, Asked, Replied, open_after, frames_for, written_to, weight, weight_given, weight_replied, requests_in, requests_of, IsFedAs, AreFedAs, asked_by, IsQuiet, IsHeard, HearsNothing, HearsOther, Apart, AreApart, IsBelow, IsNumbered, IsAmong}
-use Rattle.up_daemon.specs.Laws.{IsServed, IsJust, LosesNothing}
-use Rattle.up_daemon.specs.Rounds.{Reaches, Opens, Begins, HasBegun, ReadsClock, ClockFails, FindsEnd, FindsNone, PollFails, LetsIn, NobodyWaits, AcceptFails, IsFull, PassesOver, FindsNothing, FindsBytes, FindsFault, FindsLast, ReadFails, Closes, ClosesUnrecorded, HasRead, Enters, HasServed, TakesTurn, HasTurned, NothingWaits, Writes, WriteFails, Starts, StartFails, Signals, SignalFails, PassesEvent, Replies}
+use Rattle.up_daemon.specs.Laws.{IsServed, IsJust}
+use Rattle.up_daemon.specs.Rounds.{IsRound, Reaches, Opens, Begins, HasBegun, ReadsClock, ClockFails, FindsEnd, FindsNone, PollFails, LetsIn, NobodyWaits, AcceptFails, IsFull, PassesOver, FindsNothing, FindsBytes, FindsFault, FindsLast, ReadFails, Closes, ClosesUnrecorded, HasRead, Enters, HasServed, TakesTurn, HasTurned, NothingWaits, Writes, WriteFails, Starts, StartFails, Signals, SignalFails, PassesEvent, Replies}
 use Rattle.up_daemon.specs.RoundStates.{Part, Beginning, ReadingClock, FindingEnds, LettingIn, ReadingFrom, TakingRequests, TakingTurns, WritingTo, ClosingOf, HasOrders, DaemonState, RoundState, HasItsClients}
 use Rattle.up_daemon.proofs.Changes.{all_push, all_each, all_both, all_drop, apart_drop, all_change, all_put, apart_change, apart_push, all_init, apart_at, regroup}
 use Rattle.up_daemon.proofs.Servings.{silent, silent_served, other_written, self_written, other_asked, self_asked, other_replied, self_replied, self_heard, weight_append, weight_push}
@@ -510,7 +510,8 @@ finish start end fed gave s = record {
   numbered = record { apart = s.apart; below = s.below };
 }
 
-pub loses_nothing : LosesNothing
+pub loses_nothing : (config : Configuration) (c : Chronicle) (start : DaemonState) (fed : List Input) (gave : List (List Output)) (end : DaemonState)
+    → IsNumbered start.clients start.next → HasItsClients start → IsRound config c start fed gave end → IsJust start fed gave end
 loses_nothing config c start fed gave end numbered has reaches =
     finish start end fed gave
     (moves start ⊥ ⊥ _ _ end.next _ [] end.door.entries (λ it. it) (sym (append-nil end.clients)) (keeps config c start numbered has _ _ reaches))

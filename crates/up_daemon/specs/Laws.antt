@@ -1,5 +1,5 @@
 -- The laws of a round.
-use Rattle.std.specs.Prelude.{◌≡◌, ◌++◌, ◌⊎◌, ℕ, List}
+use Rattle.std.specs.Prelude.{◌≡◌, ◌++◌, ◌⊎◌, ℕ, Bool, false, List, []}
 use Rattle.std.specs.List.{AllByRecursion}
 use Rattle.up_model.specs.Chronicle.{Chronicle}
 use Rattle.up_model.specs.Configuration.{Configuration}
@@ -40,21 +40,36 @@ pub record IsJust (start : DaemonState) (fed : List Input) (gave : List (List Ou
   pub served : AllByRecursion (IsServed start.clients exchanges end.door.entries) end.clients
   pub numbered : IsNumbered end.clients end.next
 
+-- between rounds the door's clients are the daemon's, no two of them and no two of their unanswered requests have one number, and none has
+-- broken a frame
+pub record IsAtRest (state : DaemonState) : Type 0 where
+  pub connected : HasItsClients state
+  pub numbered : IsNumbered state.clients state.next
+  pub whole : AreWhole state.clients
+
+-- a daemon and its door, between rounds
+pub record Resting : Type 0 where
+  pub state : DaemonState
+  pub is : IsAtRest state
+
+-- so are a daemon that has no client and a door without any
+abbrev pub BeginsAtRest : Type 0
+BeginsAtRest = (state : DaemonState) → state.clients ≡ [] → ((number : ℕ) → state.connected number ≡ false) → IsAtRest state
+
+-- and so are both after a round, which leaves the door's clients the daemon's
+abbrev pub StaysAtRest : Type 0
+StaysAtRest = (config : Configuration) (c : Chronicle) (start : Resting) (fed : List Input) (gave : List (List Output))
+    (end : DaemonState) → IsRound config c start.state fed gave end → HasItsClients end → IsAtRest end
+
 -- nothing that a client said is lost, and no reply to it
 abbrev pub LosesNothing : Type 0
-LosesNothing = (config : Configuration) (c : Chronicle) (start : DaemonState) (fed : List Input) (gave : List (List Output))
-    (end : DaemonState) → IsNumbered start.clients start.next → HasItsClients start
-    → IsRound config c start fed gave end → IsJust start fed gave end
+LosesNothing = (config : Configuration) (c : Chronicle) (start : Resting) (fed : List Input) (gave : List (List Output))
+    (end : DaemonState) → IsRound config c start.state fed gave end → IsJust start.state fed gave end
 
 -- the requests of a round have the numbers from the next one on, one after another
 abbrev pub NumbersRequests : Type 0
 NumbersRequests = (config : Configuration) (c : Chronicle) (start : DaemonState) (fed : List Input) (gave : List (List Output))
     (end : DaemonState) → IsRound config c start fed gave end → AreNumbered start.next fed end.next
-
--- no client that stays has broken a frame
-abbrev pub KeepsWhole : Type 0
-KeepsWhole = (config : Configuration) (c : Chronicle) (start : DaemonState) (fed : List Input) (gave : List (List Output))
-    (end : DaemonState) → AreWhole start.clients → IsRound config c start fed gave end → AreWhole end.clients
 
 -- no call is made but those of a round's parts and orders, and each that fails is counted
 abbrev pub CountsCalls : Type 0

@@ -1,7 +1,6 @@
 //! Compiles a bundle.
 ghost use Rattle.std.specs.Prelude.{◌≡◌, ◌<◌, ◌≤◌, ◌+◌, IfOk, Ok, length};
 ghost use Rattle.up_script.specs.Statements.{script_inputs};
-ghost use Rattle.up_script.specs.declared.bundle.TheConstants.{MAX_BUNDLE};
 ghost use Rattle.up_disk.specs.Compiling.{joined, unless_bad, Compiles, CompilesFolders, CompilesLater};
 
 use crate::compiled::{Compiled, compile, compile_all, joined};
@@ -114,7 +113,7 @@ fn compile_read(
 /// The run of the bytes of a bundle, at most 64 MiB; or the output if one of its folders is refused.
 #[tactic(auto, using(up_script::proofs::Sizes::script_small, crate::proofs::Compiling::bundle_compiled))]
 pub fn compile_bundle(alloc: Global, bytes: &[u8]) -> Result<Result<BundleRun, Printed>, AllocError>
-    requires { length bytes.now ≤ MAX_BUNDLE }
+    requires { length bytes.now ≤ 67108864 }
     ensures { IfOk result (Compiles bytes.now) }
 {
     let bundle = read_bundle(alloc, bytes)?;

@@ -2,7 +2,6 @@
 ghost use Rattle.std.specs.Prelude.{◌≤◌, ◌⊎◌, IfOk, IfSome, length};
 ghost use Rattle.up_disk.specs.Disk.{ChecksDir, ExplainsDir, GraphsDir, PlaysDir, PlaysFile, PlaysFiles, PlaysOver, IsUnusable};
 ghost use Rattle.up_disk.specs.Walk.{IsWalked};
-ghost use Rattle.up_script.specs.declared.bundle.TheConstants.{MAX_BUNDLE};
 
 use crate::replay::{play_bundle, render_folder};
 use crate::walk::{cannot_walk, read_file, walk};
@@ -61,7 +60,7 @@ fn read_script<R: Files + Eprint + AllocGlobal>(
     rt: &R,
     script: &str,
 ) -> Result<Option<Vec<u8>>, AllocError>
-    ensures { IfOk result (λ read. IfSome read (λ bytes. length bytes.items ≤ MAX_BUNDLE)) }
+    ensures { IfOk result (λ read. IfSome read (λ bytes. length bytes.items ≤ 67108864)) }
 {
     match read_file(rt, script, MAX_BUNDLE + 1) {
         Ok(bytes) => {

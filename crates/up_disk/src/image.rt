@@ -2,7 +2,6 @@
 ghost use Rattle.std.specs.Prelude.{◌+◌, ◌≤◌, Decides, IfOk, IfSome, length, option_map};
 ghost use Rattle.up_disk.specs.Disk.{CompilesDir, Defines, DefinesAll, DefinesImage, IsUnusable, KeepsBundle, ShowsBytes, ShowsFile, ShowsTable, StoresFiles, StoresTable};
 ghost use Rattle.up_disk.specs.Walk.{IsWalked};
-ghost use Rattle.up_image.specs.declared.limits.TheConstants.{MAX_IMAGE};
 
 use crate::walk::{cannot_walk, read_file, walk};
 use crate::why::{say, say_error};
@@ -159,7 +158,7 @@ pub fn read_bytes<R: Files + Eprint + AllocGlobal>(
     rt: &R,
     image: &str,
 ) -> Result<Option<Vec<u8>>, AllocError>
-    ensures { IfOk result (λ read. IfSome read (λ bytes. length bytes.items ≤ MAX_IMAGE + 1)) }
+    ensures { IfOk result (λ read. IfSome read (λ bytes. length bytes.items ≤ 16777217)) }
 {
     match read_file(rt, image, MAX_IMAGE + 1) {
         Ok(bytes) => Ok(Some(bytes)),

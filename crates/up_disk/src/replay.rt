@@ -7,7 +7,6 @@ ghost use Rattle.up_model.specs.ExitStatuses.{status_number};
 ghost use Rattle.up_model.specs.declared.exit_status.ExitStatus.TheVariants.{Unusable};
 ghost use Rattle.up_print.specs.Folders.{prints, unusable};
 ghost use Rattle.up_print.specs.Lines.{step_lines};
-ghost use Rattle.up_script.specs.declared.bundle.TheConstants.{MAX_BUNDLE};
 ghost use Rattle.up_disk.specs.Replay.{play_output, play_run, Plays, Prints, Replays};
 
 use crate::bundle::{BundleRun, compile_bundle};
@@ -104,7 +103,7 @@ pub fn play_run(alloc: Global, run: BundleRun, base: Env, name: &str) -> Result<
 // The output for the bytes of a bundle that isn't too long.
 #[tactic(auto, using(crate::proofs::Limits::prints_run))]
 fn play_bytes(alloc: Global, bytes: &[u8], base: Env, name: &str) -> Result<Printed, AllocError>
-    requires { length bytes.now ≤ MAX_BUNDLE }
+    requires { length bytes.now ≤ 67108864 }
     ensures { IfOk result (Prints base name.now bytes.now) }
 {
     match compile_bundle(alloc, bytes) {
@@ -147,7 +146,7 @@ pub fn render_bundle(alloc: Global, bytes: &[u8]) -> Result<Printed, AllocError>
 // All bytes, but at most one more than a bundle may have.
 fn read_all<R: Read>(alloc: Global, reader: &mut R) -> io::Result<Vec<u8>>
     ensures { IfOk result (λ bytes. IfSome (R.remaining reader.old)
-        (λ all. bytes.items ≡ take (MAX_BUNDLE + 1) all)) }
+        (λ all. bytes.items ≡ take 67108865 all)) }
 {
     let mut bytes: Vec<u8> = Vec::new(alloc);
     let mut limited = Read::take(reader, MAX_BUNDLE as u64 + 1);

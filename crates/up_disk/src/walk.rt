@@ -1,7 +1,6 @@
 //! Reads job files, and a folder of them with its subfolders, from the disk.
 ghost use Rattle.std.specs.Prelude.{◌≡◌, ◌≤◌, ◌<◌, ◌+◌, ◌++◌, ◌∷◌, ℕ, List, [], map, if◌then◌else◌, true, is_some, IfOk, IfErr, IfSome, OnOk, length, string_bytes};
 ghost use Rattle.std.specs.IoError.{error_kind};
-ghost use Rattle.up_disk.specs.declared.walk.TheConstants.{MAX_READ};
 ghost use Rattle.up_disk.specs.Disk.{CannotWalk};
 ghost use Rattle.up_disk.specs.Walk.{path_in, is_source, level_of, below, MayAdd, TakesPath, Keeps, IsWalked, Names, NamesDeep, NamesSource, MayFail};
 
@@ -179,7 +178,7 @@ fn read_source<R: Files + Eprint + AllocGlobal>(
     is_file: bool,
 ) -> Result<Option<Vec<u8>>, WalkError>
     ensures read { IfOk result (λ read. IfSome read
-        (λ bytes. (is_source path.now ≡ true) × (length bytes.items ≤ MAX_READ))) }
+        (λ bytes. (is_source path.now ≡ true) × (length bytes.items ≤ 1048577))) }
     ensures all { IfOk result (λ read. is_some read ≡ is_source path.now) }
     ensures file { IfOk result (λ read. is_source path.now ≡ true → is_file ≡ true) }
     ensures refused { IfErr result (NamesSource whole.now path.now) }

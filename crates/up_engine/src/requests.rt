@@ -31,8 +31,11 @@ use up_book::{Book, Holders};
 use up_cascade::{Setup, event_of, has_room, start_called, stop_of};
 use up_image::JobFile;
 use up_job::InstanceKey;
-use up_model::{Answer, Command, Input, MAX_EVENTS, Process, Request, Who};
+use up_model::{Answer, Command, Input, Process, Request, Who};
 use up_text::{Env, Text};
+
+/// The most live events with which one more is accepted.
+const MAX_EVENTS: usize = 32_768;
 
 fn refuse<B: Book>(book: &mut B, text: Text) -> Result<(), AllocError>
     ensures { OnOk result ((config : Configuration) (c : Chronicle) (input : InputValue)

@@ -11,7 +11,6 @@ ghost use Rattle.up_image.specs.Image.{IsImage, IsVersion, body_of, fits, has_im
 ghost use Rattle.up_image.specs.declared.version.Version.{Version};
 ghost use Rattle.up_image.specs.declared.version.Version.TheVariants.{One, Two};
 ghost use Rattle.up_stanza.specs.Signals.{hup};
-ghost use Rattle.up_image.specs.declared.limits.TheConstants.{MAX_IMAGE, MAX_JOBS};
 ghost use Rattle.up_image.specs.Index.{all_places, entries_of, event_of, is_entry, named, places_of};
 ghost use Rattle.up_image.specs.Reading.{ReadsImage, head_error};
 ghost use Rattle.up_image.specs.declared.image_error.ImageError.{ImageError};
@@ -61,8 +60,8 @@ pub fn files_fit()
 /// So a folder of at most 1,024 jobs has no image exactly if that would have more than 16 MiB.
 pub fn only_large_ones_have_none()
     ensures { (files : List File) → has_twice (read_paths files) ≡ false
-        → nat_le (length (jobs_of files)) MAX_JOBS ≡ true
-        → has_image (jobs_of files) ≡ nat_le (12 + length (body_of Two (jobs_of files))) MAX_IMAGE }
+        → nat_le (length (jobs_of files)) 1024 ≡ true
+        → has_image (jobs_of files) ≡ nat_le (12 + length (body_of Two (jobs_of files))) 16777216 }
 {}
 
 /// The index of an image is whole: its events strictly ascend; each entry has places of one event alone; and the places of an event are

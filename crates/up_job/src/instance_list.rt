@@ -19,7 +19,10 @@ use std::alloc::{AllocError, Global};
 use std::marker::Model;
 use up_image::JobFile;
 use up_marks::Trigger;
-use up_model::{EventId, MAX_INSTANCES};
+use up_model::EventId;
+
+/// The most instances that a job has at a time.
+pub const MAX_INSTANCES: usize = 1_024;
 
 /// The instances of a job in byte order of their names, which contracts see as their list.
 #[derive(Drop)]

@@ -27,7 +27,7 @@ pub use fault::JobFault;
 pub use holder::Holder;
 pub use instance::Instance;
 pub use instance_key::InstanceKey;
-pub use instance_list::InstanceList;
+pub use instance_list::{InstanceList, MAX_INSTANCES};
 pub use instances::{Instances, JobInstances};
 pub use judgement::judge_end;
 pub use moments::Moments;

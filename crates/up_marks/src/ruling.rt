@@ -181,7 +181,9 @@ fn admits_in(job: &JobDef, start: bool, place: &Place, event: &Event) -> bool
 fn one_admits(job: &JobDef, start: bool, places: &[Place], event: &Event) -> bool
     ensures { result ≡ list_any (λ place. ruling.admits_by event.now (ruling.leaf_in (side_of start job.now) place.node)) places.now }
 {
-    places.iter().any(|place| admits_in(job, start, place, event))
+    places
+        .iter()
+        .any(|place| admits_in(job, start, place, event))
 }
 
 /// Whether an event may match a file's `stop on`: a leaf names it, and no literal value of that rules it out. Takes no memory.

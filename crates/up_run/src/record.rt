@@ -2,9 +2,9 @@
 use crate::unsaid::unsaid;
 use std::alloc::{AllocError, Global};
 use std::fs::{File, OpenFile, remove_file, rename};
+use std::io;
 use std::io::{Read, Write};
 use std::rt::Files;
-use std::io;
 use thiserror::Error;
 use up_disk::image::bundle_files;
 use up_disk::why::Reason;

@@ -2,7 +2,6 @@
 ghost use Rattle.std.specs.Prelude.{◌≤◌, ◌⊎◌, IfOk, IfSome, length};
 ghost use Rattle.up_disk.specs.Disk.{IsUnusable};
 ghost use Rattle.up_disk.specs.Walk.{IsWalked};
-ghost use Rattle.up_script.specs.declared.bundle.TheConstants.{MAX_BUNDLE};
 ghost use Rattle.up_tools.specs.Views.{ViewsDir, ViewsFile, ViewsFiles, ViewsOver, ViewsShown, ViewsSource, ViewsStored};
 
 use crate::view::{View, view_bundle, view_folder};
@@ -24,7 +23,7 @@ fn read_record<R: Files + Eprint + AllocGlobal>(
     rt: &R,
     log: &str,
 ) -> Result<Option<Vec<u8>>, AllocError>
-    ensures { IfOk result (λ read. IfSome read (λ bytes. length bytes.items ≤ MAX_BUNDLE)) }
+    ensures { IfOk result (λ read. IfSome read (λ bytes. length bytes.items ≤ 67108864)) }
 {
     match read_file(rt, log, MAX_BUNDLE + 1) {
         Ok(bytes) => {

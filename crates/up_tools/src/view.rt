@@ -1,6 +1,5 @@
 //! The output for a folder's jobs and the inputs of a record.
 ghost use Rattle.std.specs.Prelude.{◌≡◌, ◌≤◌, IfOk, length};
-ghost use Rattle.up_script.specs.declared.bundle.TheConstants.{MAX_BUNDLE};
 ghost use Rattle.up_print.specs.Folders.{prints};
 ghost use Rattle.up_tools.specs.Views.{Views, ViewsBundle, ViewsInputs, run_chart, shown, viewed_run};
 
@@ -151,7 +150,7 @@ pub(crate) fn view_bundle(
     bytes: &[u8],
     name: &str,
 ) -> Result<Printed, AllocError>
-    requires { length bytes.now ≤ MAX_BUNDLE }
+    requires { length bytes.now ≤ 67108864 }
     ensures { IfOk result (ViewsBundle view name.now) }
 {
     match compile_bundle(alloc, bytes)? {

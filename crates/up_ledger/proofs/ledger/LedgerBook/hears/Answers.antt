@@ -27,7 +27,7 @@ returns-in-Some c config c' e s there known =
     ap (one_stops event) c.of_job.ensures ∙ one-stops (place_of ledger.past.events (queue c')) ledger.past.instances config c' event c.args.index job s.past.lives.jobs there in
     subst (λ o. c.is_hearer.result ≡ (may_hear job.start_on o || one_hears o (instances_of job.name c'))) (c.in-Some.ensures config c' e s.past known)
     (subst (λ (its : JobDef). map (λ (place : Place). place.node) c.leaves.result.now ≡ naming_in its.start_on event.name
-        → c.is_hearer.result ≡ (may_match_in its.start_on event.name event.vars || one_stops event c.of_job.result.now)) c.job.ensures c.is_hearer.ensures leaves
+    → c.is_hearer.result ≡ (may_match_in its.start_on event.name event.vars || one_stops event c.of_job.result.now)) c.job.ensures c.is_hearer.ensures leaves
     ∙ ap (λ (b : Bool). may_match_in job.start_on event.name event.vars || b) stops)
 
 pub returns-in-None : goal.returns-in-None
