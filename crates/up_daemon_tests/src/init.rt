@@ -5,12 +5,12 @@ use crate::parts::expect;
 use crate::stage::{add_job, compiled};
 use mio::net::UnixStream;
 use std::alloc::Global;
-use std::fs::remove_file;
+use std::fs::{remove_file, write};
 use std::io::{ErrorKind, Read, Write};
 use std::test::Fail;
 use up_conf::Folder;
 use up_daemon::Daemon;
-use up_edge::{RealHost, ScriptSource, UnixDoor};
+use up_edge::{Door, Passed, RealHost, ScriptSource, UnixDoor};
 use up_engine::Engine;
 use up_image::Table;
 use up_text::Env;
@@ -20,6 +20,15 @@ const MOST_ROUNDS: u32 = 20_000_000;
 
 /// The rounds before the second client comes.
 const FIRST_ROUNDS: u32 = 100;
+
+/// The most requests of one client that wait: 63, and those of one more read of 4,096 bytes.
+const MOST_WAITING: usize = 473;
+
+/// How many lists a client asks for.
+const LISTS: usize = 10_000;
+
+/// The frame of the request `list`.
+static LIST: [u8; 10] = [0, 0, 0, 6, 5, 0, 0, 0, 0, 0];
 
 const START_W: &[u8] = b"\0\0\0\x07\x01\0\0\x01w\0\0";
 
@@ -261,4 +270,82 @@ fn a_task_that_waits_for_another_keeps_no_client_waiting(rt: HostRuntime) -> Res
 #[test]
 fn a_poll_that_fails_keeps_no_client_waiting(rt: HostRuntime) -> Result<(), Fail> {
     try_at(&rt, "blinking", "made-blinking", true)
+}
+
+// Writes lists until the socket takes no more; returns how many bytes of them are written in all.
+fn send_lists(client: &mut Client, sent: usize) -> Result<usize, Fail> {
+    let mut sent = sent;
+    for _ in 0..LISTS {
+        if sent >= LISTS * 10 {
+            return Ok(sent);
+        }
+        match client.stream.write(&LIST[sent % 10..]) {
+            Ok(count) => sent = sent.saturating_add(count),
+            Err(error) if error.kind() == ErrorKind::WouldBlock => return Ok(sent),
+            Err(error) => return Err(Fail::from(error)),
+        }
+    }
+    Ok(sent)
+}
+
+// How many bytes of clients a round read.
+fn read_len(passed: &[Passed]) -> usize {
+    let mut len: usize = 0;
+    for entry in passed {
+        if let Passed::Read(_, Some(bytes)) = entry {
+            len = len.saturating_add(bytes.as_slice().len());
+        }
+    }
+    len
+}
+
+// How many whole lists there are among the first bytes of the client.
+fn lists_in(read: usize) -> usize {
+    read.saturating_sub(START_W.len()) / 10
+}
+
+// None of the lists enters while the task goes on, so those that were read wait.
+fn try_lists(init: &mut Init, client: &mut Client) -> Result<(), Fail> {
+    let mut sent: usize = 0;
+    let mut read: usize = 0;
+    for _ in 0..FIRST_ROUNDS {
+        sent = send_lists(client, sent)?;
+        do_round(init)?;
+        read = read.saturating_add(read_len(init.door.happened()));
+        expect("no more than the limit wait", lists_in(read) <= MOST_WAITING)?;
+    }
+    expect("a client past the limit isn't read", lists_in(read) >= 64)
+}
+
+fn try_client(rt: &HostRuntime, init: &mut Init, socket: &str) -> Result<(), Fail> {
+    let mut client = client_of(rt, socket, START_W)?;
+    let tried = try_lists(init, &mut client);
+    drop(client);
+    tried
+}
+
+fn try_waiting(rt: &HostRuntime, socket: &str, file: &str) -> Result<(), Fail> {
+    let mut init = init_of(rt, socket, file, false)?;
+    let tried = try_client(rt, &mut init, socket);
+    drop(init);
+    // The task ends.
+    let ended = write(rt, file, b"".as_slice());
+    remove(rt, socket);
+    tried?;
+    Ok(ended?)
+}
+
+fn try_waiting_at(rt: &HostRuntime, socket: &str) -> Result<(), Fail> {
+    let file = path_of(rt, "made-crowded")?;
+    let tried = try_waiting(rt, socket, file.as_str());
+    drop(file);
+    tried
+}
+
+#[test]
+fn requests_of_one_client_wait_up_to_a_limit(rt: HostRuntime) -> Result<(), Fail> {
+    let socket = path_of(&rt, "crowded")?;
+    let tried = try_waiting_at(&rt, socket.as_str());
+    drop(socket);
+    tried
 }

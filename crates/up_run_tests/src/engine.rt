@@ -16,6 +16,7 @@ mod processes;
 mod requests;
 mod restarts;
 mod tasks;
+mod waiting;
 
 use std::alloc::{AllocError, Global};
 use std::process::Abort;

@@ -177,13 +177,13 @@ const LARGE: &'static [Large] = &[
     // The tree is as deep as it has leaves.
     Large {
         name: "most leaves",
-        text: ("", "a or ", 2_047, "a", 0),
+        text: ("", "a and ", 2_047, "a", 0),
         outcome: "leaves",
         wanted: "2048",
     },
     Large {
         name: "too many leaves",
-        text: ("", "a or ", 2_047, "a and a", 0),
+        text: ("", "a and ", 2_048, "a", 0),
         outcome: "refused",
         wanted: "16",
     },
