@@ -312,7 +312,10 @@ fn try_lists(init: &mut Init, client: &mut Client) -> Result<(), Fail> {
         sent = send_lists(client, sent)?;
         do_round(init)?;
         read = read.saturating_add(read_len(init.door.happened()));
-        expect("no more than the limit wait", lists_in(read) <= MOST_WAITING)?;
+        expect(
+            "no more than the limit wait",
+            lists_in(read) <= MOST_WAITING,
+        )?;
     }
     expect("a client past the limit isn't read", lists_in(read) >= 64)
 }

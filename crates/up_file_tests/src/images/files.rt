@@ -4,9 +4,7 @@ use crate::images::holds;
 use std::alloc::Global;
 use std::test::Fail;
 use up_conf::JobDef;
-use up_image::{
-    ImageError, JobFile, MAX_JOBS, Place, Table, add_stops, places_of_files, sort_places,
-};
+use up_image::{ImageError, JobFile, Place, Table, add_stops, places_of_files, sort_places};
 
 fn copy_has(alloc: Global, table: &Table, image: &[u8]) -> Result<bool, ImageError> {
     let copy = table.copy(alloc)?;
@@ -95,9 +93,6 @@ fn are_sorted(places: &mut Vec<Place>) -> bool {
 
 // Whether the leaves of jobs are in the order in which they are written, and are then sorted by their events.
 fn has_places(alloc: Global, files: &[JobFile]) -> bool {
-    if files.len() > MAX_JOBS {
-        return false;
-    }
     match places_of_files(alloc, files) {
         Ok(mut places) => {
             let sorted = are_sorted(&mut places);
