@@ -12,5 +12,7 @@ mod work;
 
 pub use daemon::Daemon;
 pub use error::DaemonError;
-pub use laws::{counts_calls, keeps_whole, loses_nothing, numbers_requests};
+pub use laws::{
+    begins_at_rest, closes_for_cause, counts_calls, loses_nothing, numbers_requests, stays_at_rest,
+};
 pub use log::Round;
