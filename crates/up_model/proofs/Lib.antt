@@ -25,3 +25,4 @@ pub mod LeftMoves
 pub mod LeftLaws
 pub mod CommandLaws
 pub mod Waiting
+pub mod FewJobs

@@ -1,5 +1,6 @@
 //! Laws: what holds of the names of commands, and of every run, whatever the jobs and the inputs are.
-ghost use Rattle.std.specs.Prelude.{ℕ, ◌≡◌, ◌≤◌, true, length, List, [], Some};
+ghost use Rattle.std.specs.Prelude.{ℕ, ◌≡◌, ◌≤◌, ◌+◌, true, length, List, [], Some};
+ghost use Rattle.up_conf.specs.declared.job.JobDef.{JobDef};
 ghost use Rattle.up_model.specs.Answers.{after, after_all};
 ghost use Rattle.up_model.specs.Blocks.{ActsUnblocked, HasOneMain};
 ghost use Rattle.up_model.specs.Chronicle.{Chronicle};
@@ -7,17 +8,26 @@ ghost use Rattle.up_model.specs.Configuration.{Configuration};
 ghost use Rattle.up_model.specs.Due.{due};
 ghost use Rattle.up_model.specs.Laws.{AreByAge, finished_times, handled_times, IsOrderly};
 ghost use Rattle.up_model.specs.Left.{is_calm, Spends};
-ghost use Rattle.up_model.specs.Loads.{in_force};
+ghost use Rattle.up_model.specs.Instances.{all_instances};
+ghost use Rattle.up_model.specs.Loads.{in_force, with_jobs};
 ghost use Rattle.up_model.specs.Queue.{queue};
 ghost use Rattle.up_model.specs.Requests.{command_name, command_named};
 ghost use Rattle.up_model.specs.declared.input.Input.{Input};
 ghost use Rattle.up_model.specs.declared.request.Command.{Command};
+ghost use Rattle.up_model.proofs.LoadLaws.{AreDistinct};
 
 /// A command is found by its name, and by no other word.
 pub fn named_once()
     ensures found { (command : Command) → command_named (command_name command) ≡ Some command }
     ensures own { (name : List ℕ) (command : Command) → command_named name ≡ Some command
         → name ≡ command_name command }
+{}
+
+/// After a load there are as many jobs as it brought, and at most one more for each instance that exists: a job that it removed goes on
+/// while it has one.
+pub fn few_jobs()
+    ensures { (new : List JobDef) (config : Configuration) (c : Chronicle) → AreDistinct config.jobs
+        → length (with_jobs new config c).jobs ≤ length new + length (all_instances c) }
 {}
 
 /// What is due always runs out: after an input nothing is due.
