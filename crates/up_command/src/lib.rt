@@ -3,7 +3,6 @@
 
 mod arguments;
 pub mod command;
-mod noted;
 pub mod run_command;
 
 pub use command::{Invocation, parse_args, print_refusal};

@@ -3,7 +3,6 @@ ghost use Rattle.std.specs.Prelude.{IfOk};
 ghost use Rattle.up_command.specs.Answers.{Answers};
 
 use crate::command::Invocation;
-use crate::noted::Noted;
 use std::fs::File;
 use std::io;
 use std::io::{BufWriter, Eprint, Write};
@@ -12,21 +11,36 @@ use std::process::Processes;
 use std::rt::{Clock, Files};
 use up_disk::print::print;
 use up_disk::replay::replay_bundle;
+use up_disk::why::{say, say_error};
 use up_disk::{
     check_dir, compile_dir, explain_dir, graph_dir, replay_file, replay_source, show_image,
 };
 use up_model::ExitStatus;
+use up_print::Noted;
 use up_run::run_source;
+use up_script::bundle::MAX_BUNDLE;
 use up_tools::{compare_dir, lint_dir, view_file, view_source};
+
+// Reports why the bundle on standard input can't be used, if the reader is the reason.
+fn say_why<R, E: Eprint>(rt: &E, reader: &Noted<R>) {
+    match reader.error() {
+        Some(error) => say_error(rt, "-", &error),
+        None => {
+            if reader.count() > MAX_BUNDLE as u64 {
+                say(rt, "-", "it is larger than 64 MiB (67108864 bytes)");
+            }
+        }
+    }
+}
 
 // Replays standard input, and returns the status. If standard input can't be used, the reason is reported.
 fn replay_input(rt: &(impl Input + Print + Eprint + AllocGlobal)) -> io::Result<ExitStatus> {
     let mut reader = Noted::new(rt.reader());
-    let mut writer = BufWriter::new(rt.alloc(), io::writer(rt))?;
+    let mut writer = Noted::new(BufWriter::new(rt.alloc(), io::writer(rt))?);
     let status = replay_bundle(rt.alloc(), &mut reader, &mut writer);
     writer.flush()?;
     if status == ExitStatus::Unusable {
-        reader.say_why(rt);
+        say_why(rt, &reader);
     }
     Ok(status)
 }

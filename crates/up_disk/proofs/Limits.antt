@@ -1,5 +1,5 @@
 -- What is printed depends on no more than one byte past the most that a bundle has.
-use Rattle.std.proofs.Common.{◌≡◌, ℕ, ◌<◌, ◌≤◌, true, false, List, Result, length, take, nat_le, length-take, arith, refl, sym, ap, ⊎_elim, subst, inl, inr, ◌∙◌, Option, Some, None, codes, []}
+use Rattle.std.proofs.Common.{◌≡◌, ◌⊎◌, ℕ, ◌<◌, ◌≤◌, Bool, true, false, List, Result, length, take, nat_le, length-take, arith, refl, sym, ap, ⊎_elim, subst, inl, inr, ◌∙◌, Option, Some, None, codes, []}
 use Rattle.std.specs.Prelude.{Err, IfErr, IfOk, IfSome, Ok, Vec}
 use Rattle.std.specs.Io.KnownBytes.{Appends}
 use Rattle.std.proofs.lemmas.Bool.{cases_lt}
@@ -10,7 +10,7 @@ use Rattle.up_script.specs.Bundle.{files_of, later_folders, lines_of}
 use Rattle.up_print.specs.Folders.{prints, unusable, compile_outcome}
 use Rattle.up_disk.specs.declared.bundle.BundleRun.{BundleRun}
 use Rattle.up_disk.specs.Compiling.{Compiles, Folders}
-use Rattle.up_disk.specs.Replay.{bundle_printed, output_by, play_run, Prints, Replayed, IsCutOff, Replays}
+use Rattle.up_disk.specs.Replay.{bundle_printed, output_by, play_run, Prints, Replayed, IsCutOff, IsStopped, Replays}
 use Rattle.up_disk.proofs.Compiling.{some_made, some_are}
 use Rattle.up_print.specs.Writing.{IsBegun}
 use Rattle.up_print.proofs.Reports.{any_report}
@@ -64,11 +64,14 @@ unfolding bundle_printed
 prints_run base name bytes run made less had is =
     record { folders = had.folders; same = is ∙ ap (output_by (play_run base name)) had.same ∙ sym (rw (few _ less) refl) }
 
+-- how a writer ends: all was written, or it failed
+abbrev pub Wrote : Printed → ExitStatus → (unwritten : Bool) → Option (List ℕ) → Option (List ℕ) → Type 0
+Wrote made status unwritten old new = ((status ≡ made.status) × Appends old new made.text) ⊎ ((status ≡ Unusable) × (unwritten ≡ true))
+
 replayed_whole : (all bytes : List ℕ) (made : Printed) (status : ExitStatus) (old new : Option (List ℕ)) → bytes ≡ take 67108865 all → Prints [] (codes "-") bytes made
-    → (status_number status < 3 → (status ≡ made.status) × Appends old new made.text) → status_number status < 3 → Replayed all (status_number status) old new
-replayed_whole all bytes made status old new front had wrote below =
+    → (status ≡ made.status) × Appends old new made.text → Replayed all (status_number status) old new
+replayed_whole all bytes made status old new front had written =
     let whole = prints_take all made (subst (λ b. Prints [] (codes "-") b made) front had) in
-    let written = wrote below in
     record {
       folders = whole.folders;
       ends = ap status_number (written.0 ∙ ap (λ (m : Printed). m.status) whole.same);
@@ -79,29 +82,42 @@ cut_off : (all bytes : List ℕ) (made : Printed) (old new : Option (List ℕ)) 
     → IsBegun old new made.text → IsCutOff all old new
 cut_off all bytes made old new front had begun =
     let whole = prints_take all made (subst (λ b. Prints [] (codes "-") b made) front had) in
-    inl (whole.folders, subst (λ text. IsBegun old new text) (ap (λ (m : Printed). m.text) whole.same) begun)
+    (whole.folders, subst (λ text. IsBegun old new text) (ap (λ (m : Printed). m.text) whole.same) begun)
 
--- the line that says that nothing could be read is written, or its beginning
-unread : (all : List ℕ) (made : Printed) (status : ExitStatus) (old new : Option (List ℕ)) → made ≡ prints (unusable (codes "-")) Unusable
-    → (status_number status < 3 → (status ≡ made.status) × Appends old new made.text) → IsBegun old new made.text
-    → Replays all (status_number status) old new
-unread all made status old new same wrote begun = (
-  (λ below. absurd (omega (arith, ap status_number ((wrote below).0 ∙ ap (λ (m : Printed). m.status) same), below))),
-  λ three. inr (subst (λ text. IsBegun old new text) (ap (λ (m : Printed). m.text) same) begun),
+-- what was written for a bundle that was read
+played : (all bytes : List ℕ) (made : Printed) (status : ExitStatus) (unread unwritten : Bool) (old new : Option (List ℕ)) → bytes ≡ take 67108865 all → Prints [] (codes "-") bytes made
+    → Wrote made status unwritten old new → IsBegun old new made.text → Replays all (status_number status) unread unwritten old new
+played all bytes made status unread unwritten old new front had (inl written) begun =
+    let whole = replayed_whole all bytes made status old new front had written in
+    ((λ below. whole), λ three. inl (subst (λ n. Replayed all n old new) three whole))
+played all bytes made status unread unwritten old new front had (inr failed) begun = (
+  (λ below. absurd (omega (arith, ap status_number failed.0, below))),
+  λ three. inr (inr (failed.1, cut_off all bytes made old new front had begun)),
 )
 
+-- the line that says that nothing could be read is written, or its beginning
+unread_line : (all : List ℕ) (made : Printed) (status : ExitStatus) (unread unwritten : Bool) (old new : Option (List ℕ)) → made ≡ prints (unusable (codes "-")) Unusable → unread ≡ true
+    → Wrote made status unwritten old new → IsBegun old new made.text → Replays all (status_number status) unread unwritten old new
+unread_line all made status unread unwritten old new same failed wrote begun = (
+  (λ below. absurd (omega (arith, ap status_number (by_end wrote), below))),
+  λ three. inr (inl (failed, subst (λ text. IsBegun old new text) (ap (λ (m : Printed). m.text) same) begun)),
+)
+  where
+    by_end : Wrote made status unwritten old new → status ≡ Unusable
+    by_end (inl written) = written.0 ∙ ap (λ (m : Printed). m.status) same
+    by_end (inr stopped) = stopped.0
+
 -- what was written for what was read of a reader's bytes, if these are known
-pub written_known : {A E : Type 0} (known : Option (List ℕ)) (read : Result (Vec ℕ A) E) (made : Printed) (status : ExitStatus) (old new : Option (List ℕ))
+pub written_known : {A E : Type 0} (known : Option (List ℕ)) (read : Result (Vec ℕ A) E) (made : Printed) (status : ExitStatus) (unread unwritten : Bool) (old new : Option (List ℕ))
     → IfOk read (λ bytes. IfSome known (λ all. bytes.items ≡ take 67108865 all)) → IfOk read (λ bytes. Prints [] (codes "-") bytes.items made)
-    → IfErr read (λ _. made ≡ prints (unusable (codes "-")) Unusable)
-    → (status_number status < 3 → (status ≡ made.status) × Appends old new made.text) → IsBegun old new made.text
-    → IfSome known (λ all. Replays all (status_number status) old new)
-written_known None read made status old new front had same wrote begun = tt
-written_known (Some all) (Ok bytes) made status old new front had same wrote begun =
-    (replayed_whole all bytes.items made status old new front had wrote, λ three. cut_off all bytes.items made old new front had begun)
-written_known (Some all) (Err fault) made status old new front had same wrote begun = unread all made status old new same wrote begun
+    → IfErr read (λ _. (unread ≡ true) × (made ≡ prints (unusable (codes "-")) Unusable))
+    → Wrote made status unwritten old new → IsBegun old new made.text
+    → IfSome known (λ all. Replays all (status_number status) unread unwritten old new)
+written_known None read made status unread unwritten old new front had same wrote begun = tt
+written_known (Some all) (Ok bytes) made status unread unwritten old new front had same wrote begun = played all bytes.items made status unread unwritten old new front had wrote begun
+written_known (Some all) (Err fault) made status unread unwritten old new front had same wrote begun = unread_line all made status unread unwritten old new same.1 same.0 wrote begun
 
 -- nothing is promised of a status past 3
-pub refused_known : (known : Option (List ℕ)) (status : ℕ) (old new : Option (List ℕ)) → 3 < status → IfSome known (λ all. Replays all status old new)
-refused_known None status old new past = tt
-refused_known (Some all) status old new past = ((λ below. absurd (omega (arith, past, below))), λ same. absurd (omega (arith, past, same)))
+pub refused_known : (known : Option (List ℕ)) (status : ℕ) (unread unwritten : Bool) (old new : Option (List ℕ)) → 3 < status → IfSome known (λ all. Replays all status unread unwritten old new)
+refused_known None status unread unwritten old new past = tt
+refused_known (Some all) status unread unwritten old new past = ((λ below. absurd (omega (arith, past, below))), λ same. absurd (omega (arith, past, same)))

@@ -1,5 +1,5 @@
 -- What a replay prints, and its status.
-use Rattle.std.specs.Prelude.{◌≡◌, ◌⊎◌, ℕ, ◌<◌, nat_le, List, [], ◌++◌, length, Option, Result, Ok, Err, if◌then◌else◌, codes}
+use Rattle.std.specs.Prelude.{◌≡◌, ◌⊎◌, ℕ, ◌<◌, nat_le, Bool, true, List, [], ◌++◌, length, Option, Result, Ok, Err, if◌then◌else◌, codes}
 use Rattle.std.specs.List.{flat_map}
 use Rattle.std.specs.Io.KnownBytes.{Appends}
 use Rattle.up_conf.specs.declared.folder.File.{File}
@@ -61,18 +61,23 @@ pub record Prints (base : List (List ℕ × List ℕ)) (name bytes : List ℕ) (
   pub folders : Folders (lines_of bytes)
   pub same : made ≡ bundle_printed base name bytes folders
 
--- A status below 3 is the one of the bundle that was read, and what is printed for it was written and nothing else.
+-- The status is the one of the bundle that was read, and what is printed for it was written and nothing else.
 pub record Replayed (bytes : List ℕ) (status : ℕ) (old new : Option (List ℕ)) : Type 0 where
   pub folders : Folders (lines_of bytes)
   pub ends : status ≡ status_number (bundle_printed [] (codes "-") bytes folders).status
   pub text : Appends old new (bundle_printed [] (codes "-") bytes folders).text
 
--- What was written is the beginning of what is printed for the bundle, or of the line that says that it can't be used.
+-- What was written is the beginning of what is printed for the bundle.
 abbrev pub IsCutOff : List ℕ → Option (List ℕ) → Option (List ℕ) → Type 0
-IsCutOff bytes old new =
-    ((folders : Folders (lines_of bytes)) × IsBegun old new (bundle_printed [] (codes "-") bytes folders).text)
-    ⊎ IsBegun old new (unusable (codes "-"))
+IsCutOff bytes old new = (folders : Folders (lines_of bytes)) × IsBegun old new (bundle_printed [] (codes "-") bytes folders).text
 
--- A status of 3 needs no cause, but nothing else is written then.
-abbrev pub Replays : List ℕ → ℕ → Option (List ℕ) → Option (List ℕ) → Type 0
-Replays bytes status old new = (status < 3 → Replayed bytes status old new) × (status ≡ 3 → IsCutOff bytes old new)
+-- A status of 3 has one of these causes: it is the one of the bundle, which is too long or has a folder that is refused; the reader failed, and
+-- the line that says that the bundle can't be used was written, or its beginning; or the writer failed.
+abbrev pub IsStopped : List ℕ → (unread unwritten : Bool) → Option (List ℕ) → Option (List ℕ) → Type 0
+IsStopped bytes unread unwritten old new = Replayed bytes 3 old new
+    ⊎ (((unread ≡ true) × IsBegun old new (unusable (codes "-"))) ⊎ ((unwritten ≡ true) × IsCutOff bytes old new))
+
+-- What a replay of these bytes ends with, by whether its reader failed, and its writer.
+abbrev pub Replays : List ℕ → ℕ → (unread unwritten : Bool) → Option (List ℕ) → Option (List ℕ) → Type 0
+Replays bytes status unread unwritten old new = (status < 3 → Replayed bytes status old new)
+    × (status ≡ 3 → IsStopped bytes unread unwritten old new)

@@ -6,7 +6,7 @@ use std::alloc::AllocError;
 use std::io;
 use std::io::{BufWriter, Write};
 use up_model::ExitStatus;
-use up_print::{Printed, write_printed};
+use up_print::{Noted, Printed, write_printed};
 
 /// Prints on standard output, and returns the status: `Unusable` if it can't be written, `Memory` if out of memory for the output.
 /// An error is that of standard output, or out of memory for its buffer.
@@ -19,7 +19,7 @@ pub fn print(
 {
     match made {
         Ok(made) => {
-            let mut writer = BufWriter::new(rt.alloc(), io::writer(rt))?;
+            let mut writer = Noted::new(BufWriter::new(rt.alloc(), io::writer(rt))?);
             let status = write_printed(&mut writer, &made);
             writer.flush()?;
             Ok(status)

@@ -1,5 +1,5 @@
 //! Replays a bundle.
-ghost use Rattle.std.specs.Prelude.{◌≡◌, ◌≤◌, ◌+◌, [], ◌++◌, IfErr, IfOk, IfSome, OnOk, length, take, codes};
+ghost use Rattle.std.specs.Prelude.{◌≡◌, ◌≤◌, [], ◌++◌, true, IfErr, IfOk, IfSome, OnOk, length, take, codes};
 ghost use Rattle.std.specs.List.{flat_map};
 ghost use Rattle.up_model.specs.Configuration.{started_with};
 ghost use Rattle.up_model.specs.Answers.{answers};
@@ -7,6 +7,7 @@ ghost use Rattle.up_model.specs.ExitStatuses.{status_number};
 ghost use Rattle.up_model.specs.declared.exit_status.ExitStatus.TheVariants.{Unusable};
 ghost use Rattle.up_print.specs.Folders.{prints, unusable};
 ghost use Rattle.up_print.specs.Lines.{step_lines};
+ghost use Rattle.up_print.specs.Noting.{has_failed, inner_of};
 ghost use Rattle.up_disk.specs.Replay.{play_output, play_run, Plays, Prints, Replays};
 
 use crate::bundle::{BundleRun, compile_bundle};
@@ -19,7 +20,7 @@ use up_conf::Folder;
 use up_image::Table;
 use up_model::ExitStatus;
 use up_print::check::faults_and_compile;
-use up_print::{Printed, cannot_use, push_bad_step, write_printed};
+use up_print::{Noted, Printed, cannot_use, push_bad_step, write_printed};
 use up_script::ScriptInputs;
 use up_script::bundle::MAX_BUNDLE;
 use up_text::{Env, Items};
@@ -144,8 +145,8 @@ pub fn render_bundle(alloc: Global, bytes: &[u8]) -> Result<Printed, AllocError>
 }
 
 // All bytes, but at most one more than a bundle may have.
-fn read_all<R: Read>(alloc: Global, reader: &mut R) -> io::Result<Vec<u8>>
-    ensures { IfOk result (λ bytes. IfSome (R.remaining reader.old)
+fn read_all<R: Read>(alloc: Global, reader: &mut Noted<R>) -> io::Result<Vec<u8>>
+    ensures { IfOk result (λ bytes. IfSome (R.remaining (inner_of reader.old))
         (λ all. bytes.items ≡ take 67108865 all)) }
 {
     let mut bytes: Vec<u8> = Vec::new(alloc);
@@ -154,15 +155,19 @@ fn read_all<R: Read>(alloc: Global, reader: &mut R) -> io::Result<Vec<u8>>
     Ok(bytes)
 }
 
-// The output for what was read of a bundle on standard input.
-fn render_read(alloc: Global, read: io::Result<Vec<u8>>) -> Result<Printed, AllocError>
+// The output for what was read of a bundle on standard input, by whether its reader failed. Without that only memory for the bytes can lack.
+fn render_read(
+    alloc: Global,
+    read: io::Result<Vec<u8>>,
+    unread: bool,
+) -> Result<Printed, AllocError>
     ensures bundle { IfOk result (λ made. IfOk read (λ bytes. Prints [] (codes "-") bytes.items made)) }
-    ensures unread { IfOk result (λ made. IfErr read (λ _. made ≡ prints (unusable (codes "-")) Unusable)) }
+    ensures unread { IfOk result (λ made. IfErr read (λ _. (unread ≡ true) × (made ≡ prints (unusable (codes "-")) Unusable))) }
 {
     match read {
         Ok(bytes) => render_bundle(alloc, bytes.as_slice()),
         Err(error) => {
-            if error.kind() == ErrorKind::OutOfMemory {
+            if error.kind() == ErrorKind::OutOfMemory || !unread {
                 Err(AllocError)
             } else {
                 cannot_use(alloc, "-")
@@ -173,20 +178,27 @@ fn render_read(alloc: Global, read: io::Result<Vec<u8>>) -> Result<Printed, Allo
 
 /// Reads a bundle, writes the output for it and returns the status: `Failed` with faulty files; `Usage` at a bad step; `Unusable` if
 /// the folder is refused or the bundle can't be read or written; `Memory` if out of memory.
-pub fn replay_bundle<R: Read, W: Write>(alloc: Global, reader: &mut R, writer: &mut W) -> ExitStatus
-    ensures { IfSome (R.remaining reader.old) (λ bytes. Replays bytes (status_number result)
-        (W.contents writer.old) (W.contents writer.new)) }
+pub fn replay_bundle<R: Read, W: Write>(
+    alloc: Global,
+    reader: &mut Noted<R>,
+    writer: &mut Noted<W>,
+) -> ExitStatus
+    ensures { IfSome (R.remaining (inner_of reader.old)) (λ bytes. Replays bytes (status_number result)
+        (has_failed reader.new) (has_failed writer.new)
+        (W.contents (inner_of writer.old)) (W.contents (inner_of writer.new))) }
 {
-    match render_read(alloc, read_all(alloc, reader)) {
+    let read = read_all(alloc, reader);
+    match render_read(alloc, read, reader.has_failed()) {
         Ok(made) => write_printed(writer, &made),
         Err(error) => ExitStatus::from(error),
     }
 }
 
 /// Reads a bundle, writes the output for it and returns the number of the status.
-pub fn replay<R: Read, W: Write>(alloc: Global, reader: &mut R, writer: &mut W) -> u8
-    ensures { IfSome (R.remaining reader.old)
-        (λ bytes. Replays bytes result (W.contents writer.old) (W.contents writer.new)) }
+pub fn replay<R: Read, W: Write>(alloc: Global, reader: &mut Noted<R>, writer: &mut Noted<W>) -> u8
+    ensures { IfSome (R.remaining (inner_of reader.old)) (λ bytes. Replays bytes result
+        (has_failed reader.new) (has_failed writer.new)
+        (W.contents (inner_of writer.old)) (W.contents (inner_of writer.new))) }
 {
     replay_bundle(alloc, reader, writer).number()
 }

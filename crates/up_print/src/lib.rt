@@ -5,6 +5,7 @@ pub mod advice;
 pub mod check;
 pub mod graph;
 pub mod lines;
+pub mod noted;
 pub mod printed;
 mod push;
 mod sentence;
@@ -12,5 +13,6 @@ pub mod writes;
 
 pub use advice::push_advice;
 pub use lines::{push_bad_step, push_output, push_outputs, push_step};
+pub use noted::Noted;
 pub use printed::{Printed, cannot_use, image_refused};
 pub use writes::write_printed;

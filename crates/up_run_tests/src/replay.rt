@@ -12,6 +12,7 @@ mod streams;
 use std::io::Read;
 use std::process::Abort;
 use up_disk::replay::replay;
+use up_print::Noted;
 
 /// Compares what is printed and the status. A failure is told by the name and the place of the case.
 pub(crate) fn check_printed(
@@ -31,6 +32,10 @@ pub(crate) fn check<R: Read>(
     of: (&str, usize),
 ) {
     let mut written: Vec<u8> = Vec::new(rt.alloc());
-    let status = replay(rt.alloc(), reader, &mut written);
+    let status = replay(
+        rt.alloc(),
+        &mut Noted::new(reader),
+        &mut Noted::new(&mut written),
+    );
     check_printed(rt, (written.as_slice(), status), wanted, of);
 }

@@ -7,6 +7,7 @@ use std::alloc::Global;
 use std::io;
 use std::io::Write;
 use up_disk::replay::replay;
+use up_print::Noted;
 
 // Takes what is wanted, and no memory.
 #[derive(Drop)]
@@ -36,7 +37,11 @@ fn replayed(alloc: Global) -> (u8, usize, bool) {
         left: PRINTED.as_bytes(),
         is_other: false,
     };
-    let status = replay(alloc, &mut reader, &mut writer);
+    let status = replay(
+        alloc,
+        &mut Noted::new(&mut reader),
+        &mut Noted::new(&mut writer),
+    );
     (status, writer.left.len(), writer.is_other)
 }
 

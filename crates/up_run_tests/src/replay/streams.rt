@@ -5,6 +5,7 @@ use std::io;
 use std::io::{ErrorKind, Read, Write};
 use std::process::Abort;
 use up_disk::replay::replay;
+use up_print::Noted;
 
 pub(crate) const STARTUP: &'static [u8] =
     b"%file a.conf\nstart on startup\nexec /bin/true x\n%script\nemit startup\nturn\nturn\nturn\nspawned a \"\" main 100\nturn\nturn 2\n";
@@ -114,7 +115,11 @@ fn is_cut(alloc: Global, room: usize) -> bool {
         got: Vec::new(alloc),
         room,
     };
-    let status = replay(alloc, &mut reader, &mut writer);
+    let status = replay(
+        alloc,
+        &mut Noted::new(&mut reader),
+        &mut Noted::new(&mut writer),
+    );
     status == 3 && PRINTED.as_bytes().get(..room) == Some(writer.got.as_slice())
 }
 

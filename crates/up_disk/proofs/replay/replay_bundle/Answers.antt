@@ -1,14 +1,16 @@
 use Rattle.std.proofs.Common.{arith}
+use Rattle.up_print.specs.Noting.{has_failed, inner_of}
 use Rattle.up_disk.proofs.Limits.{written_known, refused_known}
 use Rattle.up_disk.proofs.replay.replay_bundle.Goals as goal
 
 pub returns-in-Ok : goal.returns-in-Ok
 returns-in-Ok g c =
-    written_known (g.R.Read.remaining c.args.reader.now) c.read_all.result c.in-Ok.made c.write_printed.result (g.W.Write.contents c.args.writer.now)
-    (g.W.Write.contents c.write_printed.new.writer) c.read_all.ensures c.in-Ok.ensures.bundle c.in-Ok.ensures.unread
+    written_known (g.R.Read.remaining (inner_of c.args.reader.now)) c.read_all-read.result c.in-Ok.made c.write_printed.result (has_failed c.read_all-read.new.reader) (has_failed c.write_printed.new.writer)
+    (g.W.Write.contents (inner_of c.args.writer.now)) (g.W.Write.contents (inner_of c.write_printed.new.writer)) c.read_all-read.ensures c.in-Ok.ensures.bundle c.in-Ok.ensures.unread
     c.write_printed.ensures.written c.write_printed.ensures.begun
 
 pub returns-in-Err : goal.returns-in-Err
 returns-in-Err g c =
     rw c.from.ensures
-    (refused_known (g.R.Read.remaining c.args.reader.now) 4 (g.W.Write.contents c.args.writer.now) (g.W.Write.contents c.args.writer.now) (omega arith))
+    (refused_known (g.R.Read.remaining (inner_of c.args.reader.now)) 4 (has_failed c.read_all-read.new.reader) (has_failed c.args.writer.now)
+    (g.W.Write.contents (inner_of c.args.writer.now)) (g.W.Write.contents (inner_of c.args.writer.now)) (omega arith))
