@@ -1,13 +1,13 @@
 -- After a load there are as many jobs as the new ones, and at most one more for each instance that exists.
-use Rattle.up_model.proofs.Names.{◌≡◌, ℕ, Bool, true, false, not, List, [], ◌∷◌, ◌++◌, length, if◌then◌else◌, refl, sym, ◌∙◌, ap}
-use Rattle.up_model.proofs.Names.{◌&&◌, bytes_eq, filter, AllByRecursion, JobDef, is_filled, Chronicle, Entry, Configuration, job_named, Instance, instances_of}
+use Rattle.up_model.proofs.Names.{◌≡◌, ℕ, Bool, true, false, not, List, [], ◌∷◌, ◌++◌, length, if◌then◌else◌, refl, ◌∙◌, ap}
+use Rattle.up_model.proofs.Names.{◌&&◌, bytes_eq, filter, AllByRecursion, JobDef, is_filled, Chronicle, Configuration, job_named, Instance, instances_of}
 use Rattle.std.proofs.Common.{◌+◌, ◌≤◌, ◌==◌, map, is_some, arith, length-append}
 use Rattle.up_conf.specs.Order.{put_by, sort_by_order, is_below}
 use Rattle.up_model.specs.Chronicle.{Made, Entered}
 use Rattle.up_model.specs.Instances.{all_instances, is_before, with_instance, without_instance}
 use Rattle.up_model.specs.Loads.{goes_on, going_on, with_jobs, without_start}
 use Rattle.up_model.specs.declared.state.State.TheVariants as state
-use Rattle.up_model.proofs.LoadLaws.{AreDistinct}
+use Rattle.up_model.specs.Configuration.{AreDistinct}
 use Rattle.up_model.proofs.Places.{bytes_same, bytes_refl}
 use Rattle.up_model.specs.Values.{Bytes}
 
@@ -59,24 +59,24 @@ total-without w i c (job ∷ jobs) = omega (arith, weigh-without w i (instances_
 total-others : (w : Instance → ℕ) (file : JobDef) (name : Bytes) (c : Chronicle) (jobs : List JobDef) → AllByRecursion (λ other. bytes_eq other.name file.name ≡ false) jobs
     → total w (Made file name ∷ c) jobs ≡ total w c jobs
 total-others w file name c [] others = refl
-total-others w file name c (job ∷ jobs) others = by_case (bytes_eq file.name job.name) refl
+total-others w file name c (job ∷ jobs) others = by_case (bytes_eq file.name job.name) refl (total-others w file name c jobs others.1)
   where
     x : Instance
     x = record { place = length c; name = name; file = file }
 
-    by_case : (b : Bool) → bytes_eq file.name job.name ≡ b
+    by_case : (b : Bool) → bytes_eq file.name job.name ≡ b → total w (Made file name ∷ c) jobs ≡ total w c jobs
         → weigh w (if b then with_instance x (instances_of job.name c) else instances_of job.name c) + total w (Made file name ∷ c) jobs
         ≡ weigh w (instances_of job.name c) + total w c jobs
-    by_case true same =
+    by_case true same rest =
         let again : bytes_eq job.name file.name ≡ true = ap (bytes_eq job.name) (bytes_same file.name job.name same) ∙ bytes_refl job.name in
         absurd cc
-    by_case false apart = omega (arith, total-others w file name c jobs others.1)
+    by_case false apart rest = omega (arith, rest)
 
 -- of jobs with different names one has, at most
 total-made : (w : Instance → ℕ) (file : JobDef) (name : Bytes) (c : Chronicle) (jobs : List JobDef) → AreDistinct jobs
     → total w (Made file name ∷ c) jobs ≤ w (record { place = length c; name = name; file = file }) + total w c jobs
 total-made w file name c [] distinct = omega arith
-total-made w file name c (job ∷ jobs) distinct = by_case (bytes_eq file.name job.name) refl
+total-made w file name c (job ∷ jobs) distinct = by_case (bytes_eq file.name job.name) refl (total-made w file name c jobs distinct.1)
   where
     x : Instance
     x = record { place = length c; name = name; file = file }
@@ -86,14 +86,14 @@ total-made w file name c (job ∷ jobs) distinct = by_case (bytes_eq file.name j
     named same [] apart = tt
     named same (other ∷ others) apart = (ap (bytes_eq other.name) (bytes_same file.name job.name same) ∙ apart.0, named same others apart.1)
 
-    by_case : (b : Bool) → bytes_eq file.name job.name ≡ b
+    by_case : (b : Bool) → bytes_eq file.name job.name ≡ b → total w (Made file name ∷ c) jobs ≤ w x + total w c jobs
         → weigh w (if b then with_instance x (instances_of job.name c) else instances_of job.name c) + total w (Made file name ∷ c) jobs
         ≤ w x + (weigh w (instances_of job.name c) + total w c jobs)
-    by_case true same =
+    by_case true same more =
         let put = weigh-put w x (instances_of job.name c) in
         let rest = total-others w file name c jobs (named same jobs distinct.0) in
         omega (arith, put, rest)
-    by_case false apart = omega (arith, total-made w file name c jobs distinct.1)
+    by_case false apart more = omega (arith, more)
 
 -- each instance is that of one job
 bounded : (w : Instance → ℕ) (c : Chronicle) (jobs : List JobDef) → AreDistinct jobs → total w c jobs ≤ weigh w (all_instances c)

@@ -19,6 +19,7 @@ use Rattle.up_model.specs.declared.input.Input.TheVariants as input
 use Rattle.up_model.specs.declared.loaded.Loaded.{Loaded as LoadedValue}
 use Rattle.up_model.specs.declared.loaded.Loaded.TheVariants as loaded
 use Rattle.up_model.specs.declared.life.EntryActions as table
+pub use Rattle.up_model.specs.Configuration.{AreDistinct}
 use Rattle.up_model.specs.Life.{Wait, ForStart}
 use Rattle.up_model.specs.Loads.{goes_on, going_on, with_jobs, without_start}
 use Rattle.up_model.specs.Readings.{event_at, env}
@@ -244,11 +245,6 @@ have-kept new config c have = λ name none. by_case name (kept-jobs new config c
     by_case : (name : Bytes) → (job_named name config.jobs ≡ None) ⊎ (instances_of name c ≡ []) → instances_of name c ≡ []
     by_case name (inl gone) = have name gone
     by_case name (inr idle) = idle
-
--- no two jobs have one name
-abbrev pub AreDistinct : List JobDef → Type 0
-AreDistinct [] = Unit {0}
-AreDistinct (job ∷ jobs) = AllByRecursion (λ other. bytes_eq other.name job.name ≡ false) jobs × AreDistinct jobs
 
 -- a text differs from another that differs from it
 differ-back : (a b : Bytes) → bytes_eq a b ≡ false → bytes_eq b a ≡ false

@@ -1,6 +1,6 @@
 -- What a run stands on.
-use Rattle.std.specs.Prelude.{List, [], ◌∷◌, Bool, Option, None, Some, if◌then◌else◌}
-use Rattle.std.specs.List.{list_any}
+use Rattle.std.specs.Prelude.{◌≡◌, List, [], ◌∷◌, Bool, false, Option, None, Some, if◌then◌else◌}
+use Rattle.std.specs.List.{AllByRecursion, list_any}
 use Rattle.std.specs.Str.{bytes_eq}
 use Rattle.up_conf.specs.declared.job.JobDef.{JobDef}
 use Rattle.up_model.specs.Values.{Bytes, Bindings}
@@ -15,6 +15,11 @@ pub record Configuration : Type 0 where
 -- that of a start with the jobs of a folder
 abbrev pub started_with : (base : Bindings) → (jobs : List JobDef) → Configuration
 started_with base jobs = record { base = base; jobs = jobs; removed = [] }
+
+-- no two jobs have one name
+abbrev pub AreDistinct : List JobDef → Type 0
+AreDistinct [] = Unit {0}
+AreDistinct (job ∷ jobs) = AllByRecursion (λ other. bytes_eq other.name job.name ≡ false) jobs × AreDistinct jobs
 
 -- the job of this name
 abbrev pub job_named : Bytes → List JobDef → Option JobDef

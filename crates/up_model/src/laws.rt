@@ -4,7 +4,7 @@ ghost use Rattle.up_conf.specs.declared.job.JobDef.{JobDef};
 ghost use Rattle.up_model.specs.Answers.{after, after_all};
 ghost use Rattle.up_model.specs.Blocks.{ActsUnblocked, HasOneMain};
 ghost use Rattle.up_model.specs.Chronicle.{Chronicle};
-ghost use Rattle.up_model.specs.Configuration.{Configuration};
+ghost use Rattle.up_model.specs.Configuration.{AreDistinct, Configuration};
 ghost use Rattle.up_model.specs.Due.{due};
 ghost use Rattle.up_model.specs.Laws.{AreByAge, finished_times, handled_times, IsOrderly};
 ghost use Rattle.up_model.specs.Left.{is_calm, Spends};
@@ -14,7 +14,6 @@ ghost use Rattle.up_model.specs.Queue.{queue};
 ghost use Rattle.up_model.specs.Requests.{command_name, command_named};
 ghost use Rattle.up_model.specs.declared.input.Input.{Input};
 ghost use Rattle.up_model.specs.declared.request.Command.{Command};
-ghost use Rattle.up_model.proofs.LoadLaws.{AreDistinct};
 
 /// A command is found by its name, and by no other word.
 pub fn named_once()
