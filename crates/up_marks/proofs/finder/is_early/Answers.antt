@@ -1,4 +1,4 @@
-use Rattle.std.proofs.Common.{◌∙◌, sym, ap, is_lt, nat_cmp, nat_lt}
+use Rattle.std.proofs.Common.{◌∙◌, sym, ap, is_lt, nat_cmp}
 use Rattle.std.specs.Ordering.{ordering_then}
 use Rattle.up_marks.proofs.Early.{early-is}
 use Rattle.up_marks.proofs.Ordered.{lt-cmp}
@@ -12,8 +12,7 @@ returns-in-Less c =
 pub returns-in-Equal : goal.returns-in-Equal
 returns-in-Equal c =
     let job = nat_cmp c.args.leaf.now.place.job c.args.job in
-    ap (λ n. nat_lt n c.args.job) c.from.ensures
-    ∙ sym (early-is c.args.value.now c.args.job c.args.leaf.now ∙ ap (λ o. is_lt (ordering_then o job)) (sym (rw c.as_str.ensures at c.cmp.ensures) ∙ c.in-Equal.is) ∙ lt-cmp c.args.leaf.now.place.job c.args.job)
+    sym (early-is c.args.value.now c.args.job c.args.leaf.now ∙ ap (λ o. is_lt (ordering_then o job)) (sym (rw c.as_str.ensures at c.cmp.ensures) ∙ c.in-Equal.is) ∙ lt-cmp c.args.leaf.now.place.job c.args.job)
 
 pub returns-in-Greater : goal.returns-in-Greater
 returns-in-Greater c =
