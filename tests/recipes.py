@@ -48,7 +48,7 @@ class Recipe:
     def __init__(self, number, title, text):
         self.name = f"{number}. {title}"
         self.text = text
-        self.files = dict(re.findall(r"^`([\w./-]+)`\n\n```\w*\n(.*?)^```$", text, flags=re.M | re.S))
+        self.files = dict(re.findall(r"^`([\w./-]+)`\n```\w*\n(.*?)^```$", text, flags=re.M | re.S))
         self.typed = re.findall(r"^```console\n(.*?)^```$", text, flags=re.M | re.S)
         needs = re.findall(r"^Needs (.*?)\n\n|^```(console)$", text, flags=re.M | re.S)
         self.needs = [before[0] if block[1] else None for before, block in zip([("", "")] + needs, needs)]
@@ -79,6 +79,11 @@ def recipes():
             number, title = head.split(". ", 1)
             found[int(number)] = Recipe(number, title, text)
     return found
+
+
+def ending():
+    """What is typed after each recipe. What it prints is nobody's concern: it may be that no init runs."""
+    return re.search(r"^    (initctl emit shutdown; .*\n)", PAGES[0].read_text(), flags=re.M).group(1), ""
 
 
 def without_numbers(text):
@@ -176,6 +181,8 @@ class Pages(unittest.TestCase):
                 self.assertEqual(shown[path], found[path])
 
     def test_outputs(self):
+        stored = sorted(str(recipe.stored()) for recipe in recipes().values())
+        self.assertEqual(stored, sorted(path.name for path in FOLDER.glob("*.out")))
         for recipe in recipes().values():
             with self.subTest(recipe.name):
                 self.assertEqual("".join(recipe.typed), (FOLDER / recipe.stored()).read_text())
@@ -226,8 +233,10 @@ def trial(number):
             os.chmod(work, 0o755)
             desk = Desk(pathlib.Path(work))
             try:
-                for command, found, wanted in desk.type(commands):
-                    self.assertEqual(without_numbers(f"$ {command}{found}"), without_numbers(f"$ {command}{wanted}"))
+                for command, found, wanted in desk.type([*commands, ending()]):
+                    if command != ending()[0]:
+                        self.assertEqual(without_numbers(f"$ {command}{found}"), without_numbers(f"$ {command}{wanted}"))
+                self.assertEqual(desk.inits(), [])
             finally:
                 desk.clear()
         for lack in filter(None, lacks):
