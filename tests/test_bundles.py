@@ -2,6 +2,8 @@
 
 The worked rows stand in tests/rows, a bundle and what it prints each (docs/ROWS.md).
 """
+import re
+
 from harness import INITD, TOP, Case, initd, ran
 
 SPAWNED = (
@@ -265,6 +267,13 @@ class Bundles(Case):
         for path in sorted((TOP / "tests" / "rows").glob("*.bundle")):
             wanted = path.with_suffix(".out").read_bytes(), 1 if path.stem in FAULTY else 0
             self.check(f"row {path.stem}", replayed(path.read_bytes()), wanted)
+
+    def test_rows_that_are_stored(self):
+        """Each row of docs/ROWS.md that is to be stored, whose name may have `, by an event` behind it, and which may be two, is there."""
+        names = re.findall(r"^\| ([^|]*) \|.*\bstored\b[^|]* \|$", (TOP / "docs" / "ROWS.md").read_text(), flags=re.M)
+        wanted = {name for row in names for name in row.replace(", by an event", "_by_an_event").split(", ")}
+        self.check("so many", len(wanted) >= 55, True)
+        self.check("each is stored", {name for name in wanted if not (TOP / "tests" / "rows" / f"{name}.bundle").exists()}, set())
 
     def test_short_ones(self):
         for topic, cases in TOPICS:

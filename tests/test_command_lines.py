@@ -1,7 +1,7 @@
 """What command lines of initd ask for: options in any order, values that look like options, options that come again, and lines that are refused."""
 import time
 
-from harness import PATIENCE, Case, initd, initd_said, write
+from harness import PATIENCE, Case, initd, initd_said, wait_for, write
 
 JOB = "start on go\nexec /bin/d\n"
 SCRIPT = "emit go\nturn 3\n"
@@ -110,3 +110,7 @@ class CommandLines(Case):
         self.check("its image is there", initd("show", self.work / "faulty.image")[0].startswith("%file y.conf\n"), True)
         ended = initd("run", self.work / "faulty", self.work / "faulty.socket", "--rounds", "3")
         self.check("run of a faulty folder", ended, ("x.conf:1: 2 NotInProfile\n", 1))
+        write(self.work / "faulty", {"z.conf": "start on startup\nexec sleep 1000\n"})
+        with self.running("is-run", self.work / "faulty") as run:
+            self.check("a faulty folder is run", wait_for(lambda: run.ask("status", "z") == ("z start/running, process PID\n", 0)), True)
+            self.check("without the faulty job", run.ask("list"), ("y stop/waiting\nz start/running, process PID\n", 0))

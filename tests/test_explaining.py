@@ -23,6 +23,7 @@ LEFT_OUT = [
     ("expect fork", "foreground"),
     ("chroot /srv", "chroot DIR"),
     ("setuid www", "--init-groups"),
+    ("\tsetuid www", "--init-groups"),
     ("setgid www", "--regid"),
     ("umask 022", "umask 022"),
     ("nice 5", "nice -n"),

@@ -106,13 +106,14 @@ class Clients(Case):
         self.check("a client that drips is closed", closed, True)
 
     def test_patient_inits(self):
-        for name, words in [("never", ["--client-timeout", "0"]), ("sixty", [])]:
-            with self.running(name, self.folder, *words) as run:
-                with contextlib.ExitStack() as held:
-                    peer = connected(held, run)
-                    self.check(f"a silent client stays: {name}", is_closed_within(peer, 2.5), False)
-                    peer.sendall(request(VERSION))
-                    self.check(f"and is served: {name}", b"init (upstart profile 1)" in answer(peer), True)
+        """A client that says nothing stays for ever, or without the option for a minute: here for longer than the default of another option, 10."""
+        with self.running("never", self.folder, "--client-timeout", "0") as never, self.running("default", self.folder) as default:
+            with contextlib.ExitStack() as held:
+                peers = {"never": connected(held, never), "by default": connected(held, default)}
+                for name, seconds in (("never", 11), ("by default", 0.1)):
+                    self.check(f"a silent client stays: {name}", is_closed_within(peers[name], seconds), False)
+                    peers[name].sendall(request(VERSION))
+                    self.check(f"and is served: {name}", b"init (upstart profile 1)" in answer(peers[name]), True)
 
     def test_calls_that_fail(self):
         """Each call of the host and of the door that fails is told in a comment, and all are counted at the end."""

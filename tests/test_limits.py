@@ -1,11 +1,12 @@
 """Each limit at its last good value and at the first bad one, by the built programs (docs/man/init.5, initd.8 and initctl.8)."""
 import contextlib
+import os
 import re
 import shutil
 import socket
 import struct
 
-from harness import Case, initd, write
+from harness import Case, initd, wait_for, write
 
 FILE = 1_048_576
 BUNDLE = 67_108_864
@@ -40,11 +41,22 @@ def keys(stanza, count):
     return "exec /bin/d\n" + "".join(f"{stanza} K{i}{'=v' if stanza == 'env' else ''}\n" for i in range(count))
 
 
+def values(count):
+    return "start on a" + " v" * count + "\nexec /bin/d\n"
+
+
+def words(count):
+    """The program and its arguments."""
+    return "exec /bin/d" + " x" * (count - 1) + "\n"
+
+
 # What is limited, the last good file, the first bad one, and the fault.
 FILES = [
     ("a file of 1 MiB", padded(FILE), padded(FILE + 1), "16 TooLarge"),
     ("an expression of 2,048 leaves", leaves(2_048), leaves(2_049), "16 TooLarge"),
     ("256 parentheses", parentheses(256), parentheses(257), "16 TooLarge"),
+    ("65,535 values of an event", values(65_535), values(65_536), "16 TooLarge"),
+    ("65,535 words of a command", words(65_535), words(65_536), "16 TooLarge"),
     ("an expansion 16 deep", nested(16), nested(17), "14 BadExpansion"),
     ("30,000 keys", keys("env", 30_000), keys("env", 30_001), "16 TooLarge"),
     ("30,000 exported keys", keys("export", 30_000), keys("export", 30_001), "16 TooLarge"),
@@ -98,12 +110,76 @@ class Limits(Case):
             self.check(f"{name}", self.checked(good), GOOD)
             self.check(f"more than {name}", self.checked(bad), faulty(code))
 
-    def test_folders(self):
-        folder = self.work / "many"
-        write(folder, {f"job{i}.conf": "exec /bin/d\n" for i in range(1_024)})
+    def test_jobs(self):
+        """A folder of 1,024 jobs is checked, replayed and run; one of 1,025 is refused."""
+        folder, script = self.work / "many", self.work / "many.script"
+        names = [f"job{i:04}" for i in range(1_024)]
+        write(folder, {f"{name}.conf": "exec sleep 1000\n" for name in names})
+        write(folder, {f"{name}.conf": "start on startup\nexec sleep 1000\n" for name in (names[0], names[-1])})
         self.check("1,024 jobs", initd("check", folder), ("1024 jobs, 0 faults\n", 0))
+        script.write_text("emit startup\nturn 2\nrequest 1 status job1023\n")
+        wanted = "".join(f'event starting JOB="{name}" INSTANCE=""\n' for name in (names[0], names[-1])) + 'reply 1 ok "job1023 start/starting"\n'
+        self.check("1,024 jobs are replayed", initd("replay", folder, script), (wanted, 0))
+        with self.running("many", folder) as run:
+            self.check("1,024 jobs are run", wait_for(lambda: run.pid(names[-1])), True)
+            running = f"{names[0]} start/running, process PID\n", f"{names[-1]} start/running, process PID\n"
+            self.check("all are listed", run.ask("list"), (running[0] + "".join(f"{name} stop/waiting\n" for name in names[1:-1]) + running[1], 0))
         write(folder, {"more.conf": "exec /bin/d\n"})
-        self.check("1,025 jobs", initd("check", folder), ("initd: 20 TooManyJobs\n", 3))
+        for line in (["check", folder], ["replay", folder, script], ["run", folder, self.work / "none.socket"]):
+            self.check(f"{line[0]} of 1,025 jobs", initd(*line), ("initd: 20 TooManyJobs\n", 3))
+
+    def test_depth(self):
+        """A folder is 64 levels deep at most."""
+        top = self.work / "deep"
+        folder = top.joinpath(*["d"] * 64)
+        write(folder, {"a.conf": "exec /bin/d\n"})
+        self.check("64 levels", initd("check", top), ("1 jobs, 0 faults\n", 0))
+        (folder / "d").mkdir()
+        self.check("65 levels", initd("check", top), (f"initd: cannot use {top}\n", 3))
+
+    def test_entries(self):
+        """A folder has 65,536 entries at most, with those below it."""
+        folder = self.work / "entries"
+        write(folder, {"a.conf": "exec /bin/d\n", "sub/b.conf": "exec /bin/d\n"})
+        for number in range(65_536 - 3):
+            os.mknod(folder / f"{number}")
+        self.check("65,536 entries", initd("check", folder), ("2 jobs, 0 faults\n", 0))
+        os.mknod(folder / "sub" / "one")
+        self.check("65,537 entries", initd("check", folder), (f"initd: cannot use {folder}\n", 3))
+
+    def test_options(self):
+        """The options of a run at their largest and least, and beyond; the defaults are those of initd(8)."""
+        folder = self.work / "empty"
+        folder.mkdir()
+        largest = ["--rounds", "4294967295", "--pause", "60000", "--client-timeout", "86400"]
+        with self.running("largest", folder, *largest) as run:
+            self.check("an init with the largest options", run.ask("version"), ("init (upstart profile 1)\n", 0))
+        least = ["--rounds", "1", "--pause", "0", "--client-timeout", "0"]
+        self.check("an init with the least options", initd("run", folder, self.work / "least.socket", *least), ("", 0))
+        for option, value in (("rounds", 4_294_967_296), ("rounds", 0), ("pause", 60_001), ("client-timeout", 86_401)):
+            words = [f"--{option}", value, *(["--rounds", "1"] if option != "rounds" else [])]
+            self.check(f"--{option} {value}", initd("run", folder, self.work / "none.socket", *words), ("", 2))
+        self.check("no socket is made", (self.work / "none.socket").exists(), False)
+        helped = initd("run", "--help")[0]
+        self.check("defaults", re.findall(r"by default (\d+)", helped), ["10", "60"])
+
+    def test_sockets(self):
+        """A socket's path has 101 bytes at most."""
+        folder = self.work / "empty"
+        folder.mkdir()
+        name = "s" * (101 - len(f"{self.work}/.socket"))
+        with self.running(name, folder) as run:
+            self.check("a path of 101 bytes", (len(bytes(run.socket)), run.ask("version")), (101, ("init (upstart profile 1)\n", 0)))
+        path = self.work / f"{name}s.socket"
+        self.check("a path of 102 bytes", initd("run", folder, path, "--rounds", "1"), (f"initd: cannot use {path}\n", 3))
+
+    def test_requests(self):
+        """A request of a client has 65,536 bytes at most: 12 beside the value here."""
+        folder = self.work / "empty"
+        folder.mkdir()
+        with self.running("requests", folder) as run:
+            self.check("the largest request", run.ask("emit", "--no-wait", "E", "K=" + "v" * (FRAME - 12)), ("", 0))
+            self.check("a larger one", run.ask("emit", "--no-wait", "E", "K=" + "v" * (FRAME - 11)), ("initctl: Request too large\n", 1))
 
     def test_steps(self):
         for name, good, bad in STEPS:
