@@ -94,7 +94,9 @@ class Run:
             self.child = subprocess.Popen(words, **{"stdout": out, "stderr": err, "stdin": subprocess.DEVNULL, **how})
         # It ends with the tests, also if these are broken off.
         atexit.register(self.kill)
-        wait_for(self.socket.exists)
+        if not wait_for(self.socket.exists):
+            self.kill()
+            raise AssertionError(f"the init made no socket: {self.out.read_text()}{self.err.read_text()}")
 
     def asked(self, *words):
         return ran([INITCTL, "--socket", self.socket, *words], seconds=30)

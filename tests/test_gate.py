@@ -97,6 +97,12 @@ class Gate(Case):
         made = ran(how.pop("args"), preexec_fn=few_bytes, **how)
         return made.stdout.splitlines()[-1], made.returncode, os.listdir(self.rooms)
 
+    def test_what_a_part_leaves_behind(self):
+        """It ends with the part, whose output it would hold open."""
+        begun = time.monotonic()
+        found = self.ended(programs="sleep 1000 & echo 4 passed, 0 failed", slips="(trap '' TERM; sleep 1000) & echo 2 passed, 0 failed")
+        self.check("it is ended", (found, time.monotonic() - begun < 20 * PATIENCE), (("10 passed, 0 failed", 0, []), True))
+
     def test_a_limit_of_time(self):
         """Each part has one, which is shorter here."""
         self.script(self.bin / "timeout", 'exec /usr/bin/timeout -k 1 1 "${@:4}"')

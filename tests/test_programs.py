@@ -1,7 +1,11 @@
 """tests/programs itself: what it counts, and that it fails where a test does, where none ran, and where a file of tests compares less than before."""
+import contextlib
+import os
+import pathlib
 import shutil
+import subprocess
 
-from harness import TOP, Case, ran, write
+from harness import PATIENCE, TOP, Case, ran, wait_for, write
 
 TESTS = """
 import unittest
@@ -50,3 +54,17 @@ class Programs(Case):
             ("a file that can't be read", {"SKIPPED": "("}, ("0 passed, 2 failed", 1)),
         ):
             self.check(name, self.counted(**how), wanted)
+
+    def test_one_that_is_stopped(self):
+        """What it began ends with it, and nothing is left."""
+        words = [TOP / "tests" / "programs", "test_faults.Clients.test_patient_inits"]
+        with subprocess.Popen(words, env={**os.environ, "TMPDIR": str(self.work)}, stdout=subprocess.DEVNULL, stderr=subprocess.DEVNULL) as child:
+            self.check("its inits run", wait_for(lambda: len(list(self.work.glob("*/*.socket"))) == 2), True)
+            child.terminate()
+            self.check("it ends and fails", child.wait(30 * PATIENCE) != 0, True)
+        left = []
+        for path in pathlib.Path("/proc").glob("[0-9]*/cmdline"):
+            with contextlib.suppress(OSError):
+                left += [line for line in [path.read_bytes()] if bytes(self.work) in line]
+        self.check("no process is left", left, [])
+        self.check("nor a file", os.listdir(self.work), [])
