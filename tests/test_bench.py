@@ -35,7 +35,7 @@ class Faults(Case):
         (self.work / "program.c").write_text(PROGRAM)
 
     def tried(self, name, initd, initctl):
-        """The last line of a trial of some runs of these programs, and its status. A number stands for the built one, which ends so if it is refused."""
+        """The last line of a trial of these programs, and its status. A number stands for the built one, which ends so if it is refused."""
         for path, how in ((INITD, initd), (INITCTL, initctl)):
             program = self.tree / path.relative_to(TOP)
             program.parent.mkdir(parents=True, exist_ok=True)

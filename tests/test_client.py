@@ -69,7 +69,7 @@ class Client(Case):
         with contextlib.ExitStack() as held:
             how = {"stdin": subprocess.DEVNULL, "stdout": subprocess.PIPE, "stderr": subprocess.PIPE, "text": True}
             path = self.work / "dies.socket"
-            init = held.enter_context(subprocess.Popen([INITD, "run", folder, path], **{**how, "stdout": subprocess.DEVNULL, "stderr": subprocess.DEVNULL}))
+            init = held.enter_context(subprocess.Popen([INITD, "run", folder, path], stdout=subprocess.DEVNULL, stderr=subprocess.DEVNULL))
             held.callback(init.kill)
             wait_for(path.exists)
             client = held.enter_context(subprocess.Popen([INITCTL, "--socket", path, "start", "slow"], **how))
@@ -101,5 +101,5 @@ class Client(Case):
 
     @unittest.expectedFailure
     def test_unreadable_words_are_said(self):
-        """Both manuals have status 2 for a wrong command line, with the error and the usage on standard error. Nothing is said, and initd ends with 3."""
+        """Both manuals have status 2 for them, with the error and the usage on standard error. Nothing is said, and initd ends with 3."""
         self.assertEqual([self.unreadable(program, b"\xff") for program in (INITD, INITCTL)], [(b"", True, 2)] * 2)

@@ -67,7 +67,8 @@ class Gate(Case):
         made = ran(how.pop("args"), **how)
         lines = made.stdout.splitlines()
         # It comes in the log, and once more at the end.
-        self.check("it is among the last lines", (lines.count("SKIP: a page: there is no groff"), lines[-2:]), (2, ["2 skipped", "10 passed, 0 failed"]))
+        found = lines.count("SKIP: a page: there is no groff"), *lines[-2:]
+        self.check("it is among the last lines", found, (2, "2 skipped", "10 passed, 0 failed"))
         self.check("and no failure", made.returncode, 0)
 
     def test_what_git_tracks_alone_counts(self):
@@ -114,10 +115,13 @@ class Gate(Case):
     def test_a_gate_that_is_killed(self):
         """What it began ends with it, and its room is gone."""
         pids = self.work / "pids"
-        for number in (signal.SIGTERM, signal.SIGINT, signal.SIGHUP):
+        signals = signal.SIGTERM, signal.SIGINT, signal.SIGHUP
+        # (what is started in the background may ignore some)
+        heed = lambda: [signal.signal(number, signal.SIG_DFL) for number in signals]
+        for number in signals:
             pids.write_text("")
             how = self.gate(rt=f"echo $$ >> {pids}; exec sleep 1000", wrong_bodies=f"echo $$ >> {pids}; exec sleep 1000")
-            with subprocess.Popen(how.pop("args"), stdout=subprocess.DEVNULL, start_new_session=True, **how) as child:
+            with subprocess.Popen(how.pop("args"), stdout=subprocess.DEVNULL, start_new_session=True, preexec_fn=heed, **how) as child:
                 wait_for(lambda: len(pids.read_text().split()) == 2)
                 child.send_signal(number)
                 status = child.wait(40 * PATIENCE)

@@ -39,7 +39,8 @@ def page():
 class Operating(Case):
     def outputs(self, commands):
         """What each block prints, in one shell, on each output; in the same folder for all, and not in /tmp."""
-        script = "trap 'kill $(jobs -p) 2> /dev/null' EXIT\n" + "".join(f"{block}echo '{MARK}'\n" for block in commands).replace("/tmp/", f"{self.work}/")
+        script = "".join(["trap 'kill $(jobs -p) 2> /dev/null' EXIT\n", *(f"{block}echo '{MARK}'\n" for block in commands)])
+        script = script.replace("/tmp/", f"{self.work}/")
         out, err = self.work / "stdout", self.work / "stderr"
         with open(out, "wb") as to_out, open(err, "wb") as to_err:
             ran(["bash", "-c", script], seconds=120, stdout=to_out, stderr=to_err, cwd=TOP)

@@ -1,7 +1,7 @@
 """Each command of both programs where its output can't be written: a full device, a pipe that nobody reads, and no standard output at all.
 
-initd then ends with status 3 and initctl with 1 (initd(8) and initctl(8), "Exit status"). An initd that was started without standard output has the null
-device there, so that its status is that of the command.
+initd then ends with status 3 and initctl with 1 (initd(8) and initctl(8), "Exit status"). An initd that was started without standard output has the
+null device there, so that its status is that of the command.
 """
 import os
 import unittest
@@ -98,4 +98,5 @@ class Outputs(Case):
     def test_a_reply_without_standard_output(self):
         """The socket gets the descriptor of the standard output, and the text goes to the init in place of a reader."""
         with self.running("closed", self.work / "jobs") as run:
-            self.assertEqual({line: broken([INITCTL, "--socket", run.socket, *line.split()], self.work, "closed") for line in REPLIES}, dict.fromkeys(REPLIES, 1))
+            found = {line: broken([INITCTL, "--socket", run.socket, *line.split()], self.work, "closed") for line in REPLIES}
+        self.assertEqual(found, dict.fromkeys(REPLIES, 1))

@@ -11,7 +11,7 @@ COMMANDS = [
     (CHECK, 1, "backup.override:3: 2 NotInProfile\n"),
     (CHECK.replace("check", "check --explain"), 1, "database.conf:11: 2 NotInProfile\n    umask"),
     ("crates/initd/out/initd lint examples/distribution", 1, None),
-    ("printf 'emit startup\\nturn\\n' > up.script\ncrates/initd/out/initd replay examples/distribution up.script", 1, 'event starting JOB="hostname"'),
+    ("printf 'emit startup\\nturn\\n' > up.script\ncrates/initd/out/initd replay examples/distribution up.script", 1, "event starting JOB="),
     ("crates/initd/out/initd compile examples/distribution jobs.image\ncrates/initd/out/initd show jobs.image", 0, None),
 ]
 

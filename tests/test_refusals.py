@@ -69,12 +69,15 @@ class Refusals(Case):
         self.check("the link is still there", link.is_symlink() and not link.exists(), True)
         self.check("compile to a pipe", initd_said("compile", self.folder, pipe), unusable(pipe, "it isn't a regular file, and is never replaced"))
         self.check("the pipe is still there", pipe.is_fifo(), True)
-        self.check("compile to a folder", initd_said("compile", self.folder, self.folder), unusable(self.folder, "it is a folder, which is never replaced"))
+        why = "it is a folder, which is never replaced"
+        self.check("compile to a folder", initd_said("compile", self.folder, self.folder), unusable(self.folder, why))
         device = a_device(self.work)
-        self.check("compile to a device", initd_said("compile", self.folder, device), unusable(device, "it isn't a regular file, and is never replaced"))
+        why = "it isn't a regular file, and is never replaced"
+        self.check("compile to a device", initd_said("compile", self.folder, device), unusable(device, why))
         self.check("the device is still there", stat.S_ISCHR(os.stat(device).st_mode), True)
         output = pathlib.Path("/dev/stdout")
-        self.check("compile to the standard output", initd_said("compile", self.folder, output), unusable(output, "it is a symbolic link, which is never replaced"))
+        why = "it is a symbolic link, which is never replaced"
+        self.check("compile to the standard output", initd_said("compile", self.folder, output), unusable(output, why))
         away = self.work / "no" / "image"
         self.check("compile to no folder", initd_said("compile", self.folder, away), unusable(away, "No such file or directory"))
         there.write_text("an older one")
@@ -201,7 +204,8 @@ class Refusals(Case):
         again = folder / "again"
         again.symlink_to(".")
         found = initd_said("check", folder)
-        self.check("a folder that lies in itself", (found[0], "Too many levels of symbolic links" in found[1], found[2]), (f"initd: cannot use {folder}\n", True, 3))
+        found = found[0], "Too many levels of symbolic links" in found[1], found[2]
+        self.check("a folder that lies in itself", found, (f"initd: cannot use {folder}\n", True, 3))
         again.unlink()
         (folder / "sub").mkdir()
         names = [bytes(folder) + b"/caf\xe9.conf", bytes(folder) + b"/sub/\xff"]
@@ -223,7 +227,8 @@ class Refusals(Case):
         self.check("no folder", initd_said("run", missing, self.work / "s"), unusable(missing, "No such file or directory"))
         self.check("no image", initd_said("show", missing), unusable(missing, "No such file or directory"))
         self.check("no script", initd_said("replay", self.work / "idle", missing), unusable(missing, "No such file or directory"))
-        self.check("a device as jobs", initd_said("run", "/dev/null", self.work / "s"), unusable("/dev/null", "it is neither a folder nor a regular file"))
+        why = "it is neither a folder nor a regular file"
+        self.check("a device as jobs", initd_said("run", "/dev/null", self.work / "s"), unusable("/dev/null", why))
 
     def test_a_record_on_a_full_disk(self):
         record = self.work / "full.record"
@@ -256,7 +261,8 @@ class Refusals(Case):
         self.check("a bad name", said("emit", "a b"), ("initctl: Bad word: a b\n", 1))
         self.check("a large request", said("emit", "a", "A=" + "x" * 70_000), ("initctl: Request too large\n", 1))
         text, status = said("start", "--socket", "x", "web")
-        self.check("an option that stands too late", ("'--socket PATH' comes before the command" in text, "-- --socket" in text, status), (True, False, 2))
+        found = "'--socket PATH' comes before the command" in text, "-- --socket" in text, status
+        self.check("an option that stands too late", found, (True, False, 2))
         helped = ran([INITCTL, "--help"]).stdout
         described = dict(re.findall(r"^  (\w\S*) {2,}(.+?) *$", helped, flags=re.M))
         self.check("the help describes each command", {name: described.get(name) for name in COMMANDS}, COMMANDS)

@@ -103,7 +103,8 @@ class Runs(Case):
         """Services that catch their reload signal go on, and the client is told when it was sent."""
         folder = self.work / "reloads"
         jobs = {"hup": ("", "HUP"), "usr": ("reload signal USR1\n", "USR1")}
-        write(folder, {f"{name}.conf": catcher(self.work, name, *how) for name, how in jobs.items()} | {"late.conf": "post-start exec sleep 1004\nexec sleep 1005\n"})
+        write(folder, {f"{name}.conf": catcher(self.work, name, *how) for name, how in jobs.items()})
+        write(folder, {"late.conf": "post-start exec sleep 1004\nexec sleep 1005\n"})
         with self.running("reloads", folder) as run:
             for name, (_, signal_name) in jobs.items():
                 self.check(f"{name} is started", run.ask("start", name), (f"{name} start/running, process PID\n", 0))
