@@ -6,12 +6,13 @@ from harness import TOP, Case, initd, ran
 
 FIRST = "(cd crates/initd && rt run < ../../examples/one-service.bundle)"
 CHECK = "crates/initd/out/initd check examples/distribution"
+REPLAY = "printf 'emit startup\\nturn\\n' > up.script\ncrates/initd/out/initd replay examples/distribution up.script"
 # Commands, their statuses, and the first line of what the page shows of it; where it shows nothing, None. The page has the second one in a sentence.
 COMMANDS = [
     (CHECK, 1, "backup.override:3: 2 NotInProfile\n"),
     (CHECK.replace("check", "check --explain"), 1, "database.conf:11: 2 NotInProfile\n    umask"),
     ("crates/initd/out/initd lint examples/distribution", 1, None),
-    ("printf 'emit startup\\nturn\\n' > up.script\ncrates/initd/out/initd replay examples/distribution up.script", 1, "event starting JOB="),
+    (REPLAY, 1, 'event starting JOB="hostname"'),
     ("crates/initd/out/initd compile examples/distribution jobs.image\ncrates/initd/out/initd show jobs.image", 0, None),
 ]
 
