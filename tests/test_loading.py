@@ -105,7 +105,7 @@ class Loading(Case):
         write(self.work, {"taken.record.new": "somebody else's\n"})
         with self.running("taken", folder, "--record", record) as run:
             # Its first round is written when it is over; a client may come before.
-            wait_for(record.read_text)
+            wait_for(lambda: record.exists() and record.read_text())
             self.check("jobs are loaded", run.ask("reload-configuration"), ("", 0))
             self.check("the record ends, which is said", wait_for(lambda: "initd: the record ends: File exists\n" in run.err.read_text()), True)
             self.check("the other file is left", other.read_text(), "somebody else's\n")
