@@ -1,4 +1,5 @@
 # Installs what is built: `make install PREFIX=/usr/local DESTDIR=`. The programs are built by `rt run` in their crates, as README.md says.
+# `make test` runs the tests of the built programs, `make test NAME=test_limits.Limits` those that are named.
 PREFIX ?= /usr/local
 
 SBIN = $(DESTDIR)$(PREFIX)/sbin
@@ -16,4 +17,7 @@ uninstall:
 	rm -f $(SBIN)/initd $(SBIN)/initctl $(MAN)/man5/init.5 $(MAN)/man8/initd.8 $(MAN)/man8/initctl.8
 	rm -f $(COMPLETION)/initd $(COMPLETION)/initctl
 
-.PHONY: install uninstall
+test:
+	tests/programs $(NAME)
+
+.PHONY: install uninstall test

@@ -38,10 +38,24 @@ fn words_of(rt: &(impl Env + AllocGlobal)) -> io::Result<Vec<String>> {
     Ok(words)
 }
 
+// Says that a word of the command line isn't text, if that is the error, and returns the status.
+fn refuse_words(rt: &HostRuntime, error: &io::Error) -> ExitStatus {
+    let status = ExitStatus::of_error(error, ExitStatus::Usage);
+    if status == ExitStatus::Usage {
+        let _ = eprintln!(rt;
+            "error: a word isn't UTF-8\n\nUsage: initd [COMMAND]\n\nFor more information, try '--help'."
+        );
+    }
+    status
+}
+
 // Does what the command line asks for, and returns the status.
 fn run(rt: &HostRuntime) -> io::Result<ExitStatus> {
     fill_standard(rt)?;
-    let words = words_of(rt)?;
+    let words = match words_of(rt) {
+        Ok(words) => words,
+        Err(error) => return Ok(refuse_words(rt, &error)),
+    };
     match parse_args(rt.alloc(), words.as_slice()) {
         Ok(invocation) => run_command(rt, invocation),
         Err(error) => Ok(print_refusal(rt, &error)),

@@ -1,5 +1,5 @@
 """`initd lint`: a folder with and one without each kind of warning, worked out by hand; lines, order, options and refused folders."""
-from harness import check, check_stored, examples, initd, write
+from harness import Case, examples, initd, write
 
 RUN = "exec /bin/d\n"
 
@@ -207,18 +207,23 @@ CASES = [
 ]
 
 
-def all_of(folder):
-    for place, (name, files, options, wanted) in enumerate(CASES):
-        jobs = folder / str(place)
-        jobs.mkdir(parents=True)
-        write(jobs, files)
-        check(f"lint: {name}", initd("lint", *options, jobs), (wanted, 1 if wanted else 0))
-    away = folder / "away"
-    check("lint: no folder", initd("lint", away), (f"initd: cannot use {away}\n", 3))
-    write(folder / "many", {f"{place}.conf": RUN for place in range(1025)})
-    check("lint: a folder that is refused", initd("lint", folder / "many"), ("initd: 20 TooManyJobs\n", 3))
-    check("lint: a kind that isn't one", initd("lint", "--allow", "unknown", folder / "0"), ("", 2))
-    check("lint: an option without its value", initd("lint", folder / "0", "--event"), ("", 2))
-    folders = examples(folder / "examples")
-    for name in ("distribution", "server"):
-        check_stored("lint", "lint", [folders[name]], name)
+class Lints(Case):
+    def test_cases(self):
+        for place, (name, files, options, wanted) in enumerate(CASES):
+            jobs = self.work / str(place)
+            jobs.mkdir()
+            write(jobs, files)
+            self.check(name, initd("lint", *options, jobs), (wanted, 1 if wanted else 0))
+
+    def test_refusals(self):
+        away = self.work / "away"
+        self.check("no folder", initd("lint", away), (f"initd: cannot use {away}\n", 3))
+        write(self.work / "many", {f"{place}.conf": RUN for place in range(1025)})
+        self.check("a folder that is refused", initd("lint", self.work / "many"), ("initd: 20 TooManyJobs\n", 3))
+        self.check("a kind that isn't one", initd("lint", "--allow", "unknown", self.work / "many"), ("", 2))
+        self.check("an option without its value", initd("lint", self.work / "many", "--event"), ("", 2))
+
+    def test_examples(self):
+        folders = examples(self.work)
+        for name in ("distribution", "server"):
+            self.check_stored("lint", "lint", [folders[name]], name, 1)

@@ -1,8 +1,7 @@
 """`initd graph`: a folder's graph, worked out by hand; and that dot takes those of the examples, where it is installed."""
 import shutil
-import subprocess
 
-from harness import check, check_stored, examples, initd, write
+from harness import Case, examples, initd, ran, write
 
 FILES = {
     "a.conf": "start on (startup and net-up IFACE=eth0) or go\nstop on stopping b\nexec /bin/a\n",
@@ -40,18 +39,23 @@ WANTED = r"""digraph jobs {
 """
 
 
-def all_of(folder):
-    write(folder / "jobs", FILES)
-    check("graph: a folder's", initd("graph", folder / "jobs"), (WANTED, 0))
-    (folder / "none").mkdir()
-    check("graph: an empty folder's", initd("graph", folder / "none"), ("digraph jobs {\n  rankdir=LR;\n}\n", 0))
-    write(folder / "faulty", {"a.conf": "exec /bin/a\n", "b.conf": "bogus\n"})
-    wanted = 'digraph jobs {\n  rankdir=LR;\n  "job a" [label="a", shape=box];\n}\n'
-    check("graph: a faulty file has no job", initd("graph", folder / "faulty"), (wanted, 1))
-    check("graph: no folder", initd("graph", folder / "away"), (f"initd: cannot use {folder / 'away'}\n", 3))
-    folders = examples(folder / "examples")
-    check_stored("graph", "dot", [folders["distribution"]], "distribution")
-    if shutil.which("dot"):
-        for example in (folder / "jobs", *folders.values()):
-            drawn = subprocess.run(["dot", "-Tsvg"], input=initd("graph", example)[0], capture_output=True, text=True, timeout=60)
-            check(f"graph: dot takes {example.name}", (drawn.returncode, drawn.stderr), (0, ""))
+class Graphs(Case):
+    def test_folders(self):
+        write(self.work / "jobs", FILES)
+        self.check("a folder's", initd("graph", self.work / "jobs"), (WANTED, 0))
+        (self.work / "none").mkdir()
+        self.check("an empty folder's", initd("graph", self.work / "none"), ("digraph jobs {\n  rankdir=LR;\n}\n", 0))
+        write(self.work / "faulty", {"a.conf": "exec /bin/a\n", "b.conf": "bogus\n"})
+        wanted = 'digraph jobs {\n  rankdir=LR;\n  "job a" [label="a", shape=box];\n}\n'
+        self.check("a faulty file has no job", initd("graph", self.work / "faulty"), (wanted, 1))
+        self.check("no folder", initd("graph", self.work / "away"), (f"initd: cannot use {self.work / 'away'}\n", 3))
+        self.check_stored("graph", "dot", [examples(self.work)["distribution"]], "distribution", 1)
+
+    def test_dot_takes_them(self):
+        write(self.work / "jobs", FILES)
+        for name, folder in {"jobs": self.work / "jobs", **examples(self.work)}.items():
+            with self.subTest(name):
+                if not shutil.which("dot"):
+                    self.skipTest("there is no dot")
+                drawn = ran(["dot", "-Tsvg"], input=initd("graph", folder)[0])
+                self.assertEqual((drawn.returncode, drawn.stderr), (0, ""))

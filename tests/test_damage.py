@@ -4,19 +4,17 @@
 An image is either refused, with one of the five refusals that images have, or it is one that job files give: then the files that
 `initd show` prints are compiled to the same bytes again. A frame is answered if it is a request by a reader that stands here, and else its client is
 closed, or heard no more. Run as a program it tries each other value of each byte, each length, and so many
-images with two bytes changed at random (10,000 if no number is given), from a seed that it prints.
+images with two bytes changed at random (10,000 if no number is given), from a seed that it prints: `tests/test_damage.py 100`.
 """
 import os
-import pathlib
 import random
 import re
 import shutil
 import socket
-import subprocess
 import sys
-import tempfile
+import unittest
 
-from harness import INITD, TOP, Run, check, counts, initd, write
+from harness import INITD, TOP, Case, initd, ran, write
 
 REFUSALS = re.compile(rb"initd: (30 BadMagic|31 BadVersion|32 Truncated|33 Trailing|34 BadTable)\n")
 
@@ -60,7 +58,7 @@ class Trial:
     def give(self, data, name):
         self.image.write_bytes(data)
         # Bytes, since a text's line ends would be changed.
-        made = subprocess.run([INITD, "show", self.image], capture_output=True, timeout=60)
+        made = ran([INITD, "show", self.image], text=False)
         printed, status = made.stdout, made.returncode
         if status == 3 and REFUSALS.fullmatch(printed):
             self.refused += 1
@@ -74,7 +72,7 @@ class Trial:
         """Whether the files that were printed give the image. A path that no disk has, as `/.conf`, can be in a bundle alone: it has no fault there."""
         parts = [part.split(b"\n", 1) for part in re.split(rb"^%file ", printed, flags=re.M)[1:]]
         if any(step in (b"", b".", b"..") for path, _ in parts for step in path.split(b"/")):
-            return subprocess.run([INITD], input=printed + b"%script\n", capture_output=True, timeout=60).returncode == 0
+            return ran([INITD], input=printed + b"%script\n", text=False).returncode == 0
         shutil.rmtree(self.folder, ignore_errors=True)
         for path, text in parts:
             whole = self.folder / os.fsdecode(path)
@@ -110,22 +108,6 @@ def at_random(data, times, chance):
         for at in chance.sample(range(len(data)), 2):
             changed[at] = chance.randrange(256)
         yield f"{changed.hex()}", bytes(changed)
-
-
-def images(work):
-    """The image of one service, also in version 1, and that of a folder with every field used."""
-    folder, image = work / "whole", work / "whole.image"
-    write(folder, WHOLE)
-    check("damage: every field is compiled", initd("compile", folder, image), ("2 jobs, 0 faults\n", 0))
-    check("damage: the image of version 1 says the same", renewed(OLD.read_bytes()), SMALL)
-    return ("one service", SMALL), ("one service in version 1", OLD.read_bytes()), ("every field", image.read_bytes())
-
-
-def tried(work, name, changes):
-    trial = Trial(work)
-    for what, data in changes:
-        trial.give(data, what)
-    check(f"damage: {name}: {trial.refused:,} refused, {trial.read:,} read, no other answer", trial.wrong[:3], [])
 
 
 # A request `start a`, and one with variables.
@@ -198,51 +180,55 @@ def got(path, data, wanted):
             return "nothing yet" if peer.recv(65_536) == b"" else "an answer"
 
 
-def frames(work, values):
-    """A request, and one with variables, with each byte changed, and cut at each length."""
-    folder = work / "empty"
-    folder.mkdir()
-    run = Run(work, "frames", folder)
-    for name, data in (("start a", START), ("status with variables", VARIABLES)):
-        wrong, answers = [], {}
-        for what, sent in [("as it is", data), *replaced(data, values), *((f"the first {n} bytes", data[:n]) for n in range(1, len(data)))]:
-            wanted = answer_to(sent)
-            answers[wanted] = answers.get(wanted, 0) + 1
-            if got(run.socket, sent, wanted) != wanted:
-                wrong.append((what, wanted))
-        told = ", ".join(f"{count:,} got {what}" for what, count in sorted(answers.items()))
-        check(f"damage: {name}: {told}, no other answer", wrong[:3], [])
-    check("damage: the init goes on", run.ask("version"), ("init (upstart profile 1)\n", 0))
-    run.end()
+# How a byte is changed, how many bytes of an image, how many images have two others, and the seed of those: in a test, and in a long trial.
+SHORT, LONG = (near, 113, 100, 1), (lambda byte: range(256), None, 10_000, random.randrange(1 << 32))
 
 
-def all_of(work):
-    """A short trial, always the same."""
-    work.mkdir()
-    chance = random.Random(1)
-    for name, data in images(work):
-        tried(work, f"{name}, as it is", [("nothing", data)])
-        tried(work, f"{name}, cut", cut(data))
-        tried(work, f"{name}, a byte changed a little", replaced(data, near, 113))
-        tried(work, f"{name}, two bytes", at_random(data, 100, chance))
-    frames(work, near)
+class Damage(Case):
+    how = SHORT
 
+    def tried(self, name, changes):
+        trial = Trial(self.work)
+        for what, data in changes:
+            trial.give(data, what)
+        self.check(f"{name}: {trial.refused:,} refused, {trial.read:,} read, no other answer", trial.wrong[:3], [])
 
-def main():
-    times = int(sys.argv[1]) if len(sys.argv) > 1 else 10_000
-    seed = random.randrange(1 << 32)
-    print(f"seed {seed}")
-    chance = random.Random(seed)
-    with tempfile.TemporaryDirectory() as folder:
-        work = pathlib.Path(folder)
-        for name, data in images(work):
-            tried(work, f"{name}, cut", cut(data))
-            tried(work, f"{name}, each other value of each byte", replaced(data, lambda byte: range(256)))
-            tried(work, f"{name}, two bytes", at_random(data, times, chance))
-        frames(work, lambda byte: range(256))
-    print(f"{counts[True]} passed, {counts[False]} failed")
-    sys.exit(1 if counts[False] else 0)
+    def test_images(self):
+        """The image of one service, also in version 1, and that of a folder with every field used."""
+        values, count, times, seed = self.how
+        chance = random.Random(seed)
+        folder, image = self.work / "whole", self.work / "whole.image"
+        write(folder, WHOLE)
+        self.check("every field is compiled", initd("compile", folder, image), ("2 jobs, 0 faults\n", 0))
+        self.check("the image of version 1 says the same", renewed(OLD.read_bytes()), SMALL)
+        for name, data in ("one service", SMALL), ("one service in version 1", OLD.read_bytes()), ("every field", image.read_bytes()):
+            self.tried(f"{name}, as it is", [("nothing", data)])
+            self.tried(f"{name}, cut", cut(data))
+            self.tried(f"{name}, other bytes", replaced(data, values, count))
+            self.tried(f"{name}, two bytes", at_random(data, times, chance))
+
+    def test_frames(self):
+        """A request, and one with variables, with each byte changed, and cut at each length."""
+        folder = self.work / "empty"
+        folder.mkdir()
+        with self.running("frames", folder) as run:
+            for name, data in (("start a", START), ("status with variables", VARIABLES)):
+                wrong, answers = [], {}
+                others = *replaced(data, self.how[0]), *((f"the first {n} bytes", data[:n]) for n in range(1, len(data)))
+                for what, sent in [("as it is", data), *others]:
+                    wanted = answer_to(sent)
+                    answers[wanted] = answers.get(wanted, 0) + 1
+                    if got(run.socket, sent, wanted) != wanted:
+                        wrong.append((what, wanted))
+                told = ", ".join(f"{count:,} got {what}" for what, count in sorted(answers.items()))
+                self.check(f"{name}: {told}, no other answer", wrong[:3], [])
+            self.check("the init goes on", run.ask("version"), ("init (upstart profile 1)\n", 0))
 
 
 if __name__ == "__main__":
-    main()
+    values, count, times, seed = LONG
+    if len(sys.argv) > 1:
+        times = int(sys.argv.pop(1))
+    Damage.how = values, count, times, seed
+    print(f"seed {seed}")
+    unittest.main()

@@ -2,9 +2,9 @@
 
 The worked rows stand in tests/rows, a bundle and what it prints each (docs/ROWS.md).
 """
-import subprocess
+import re
 
-from harness import INITD, TOP, check
+from harness import INITD, TOP, Case, initd, ran
 
 SPAWNED = (
     'event starting JOB="a" INSTANCE=""\n'
@@ -242,30 +242,86 @@ FAULTY = {"bad_expressions", "invalid_override"}
 
 def replayed(bundle):
     """What initd prints for a bundle, as bytes, and its status."""
-    made = subprocess.run([INITD], input=bundle, capture_output=True, timeout=60)
+    made = ran([INITD], input=bundle, text=False)
     return made.stdout, made.returncode
 
 
-def rows():
-    for path in sorted((TOP / "tests" / "rows").glob("*.bundle")):
-        wanted = path.with_suffix(".out").read_bytes(), 1 if path.stem in FAULTY else 0
-        check(f"row {path.stem}", replayed(path.read_bytes()), wanted)
+ALONE = "%file a.conf\nstart on go\nexec /bin/d\n"
+FAILING = "%file b.conf\nstart on go\nexec /bin/b\n"
+WAITING = "%file a.conf\nstart on A and B\nexec /bin/d\n"
 
 
-def short_ones():
-    for topic, cases in TOPICS:
-        for place, (bundle, printed, status) in enumerate(cases):
-            check(f"{topic}, at {place}", replayed(bundle), (printed.encode(), status))
+def lines_of(job, printed):
+    """The lines of a job in what a replay prints: its starts with their environments, and its events."""
+    lines, is_its = [], False
+    for line in printed.splitlines():
+        if not line.startswith("  "):
+            is_its = line.startswith(f"spawn {job} ") or f'JOB="{job}"' in line
+        if is_its:
+            lines.append(line)
+    return lines
 
 
-def steps():
-    for line, printed in STEPS:
-        check(f"step {line!r}", replayed(b"%script\n" + line + b"\n"), (printed.encode(), 0))
-    for line in BAD_STEPS:
-        check(f"no step: {line!r}", replayed(b"%script\n" + line + b"\n"), (b"-:2: bad step\n", 2))
+class Bundles(Case):
+    def test_rows(self):
+        for path in sorted((TOP / "tests" / "rows").glob("*.bundle")):
+            wanted = path.with_suffix(".out").read_bytes(), 1 if path.stem in FAULTY else 0
+            self.check(f"row {path.stem}", replayed(path.read_bytes()), wanted)
 
+    def test_rows_that_are_stored(self):
+        """Each row of docs/ROWS.md that is to be stored, whose name may have `, by an event` behind it, and which may be two, is there."""
+        names = re.findall(r"^\| ([^|]*) \|.*\bstored\b[^|]* \|$", (TOP / "docs" / "ROWS.md").read_text(), flags=re.M)
+        wanted = {name for row in names for name in row.replace(", by an event", "_by_an_event").split(", ")}
+        self.check("so many", len(wanted) >= 55, True)
+        self.check("each is stored", {name for name in wanted if not (TOP / "tests" / "rows" / f"{name}.bundle").exists()}, set())
 
-def all_of():
-    rows()
-    short_ones()
-    steps()
+    def test_short_ones(self):
+        for topic, cases in TOPICS:
+            for place, (bundle, printed, status) in enumerate(cases):
+                self.check(f"{topic}, at {place}", replayed(bundle), (printed.encode(), status))
+
+    def test_steps(self):
+        for line, printed in STEPS:
+            self.check(f"step {line!r}", replayed(b"%script\n" + line + b"\n"), (printed.encode(), 0))
+        for line in BAD_STEPS:
+            self.check(f"no step: {line!r}", replayed(b"%script\n" + line + b"\n"), (b"-:2: bad step\n", 2))
+
+    def test_a_job_beside_one_that_fails(self):
+        """A job does the same alone, and beside one that the same event starts and that can't be started."""
+        wanted = [
+            'event starting JOB="a" INSTANCE=""',
+            'spawn a main "/bin/d"',
+            '  UPSTART_EVENTS="go"',
+            '  UPSTART_JOB="a"',
+            '  UPSTART_INSTANCE=""',
+            'event started JOB="a" INSTANCE=""',
+        ]
+        alone = 'emit go\nturn\nturn 2\nspawned a "" main 100\nturn\n'
+        beside = 'emit go\nturn\nturn 2\nturn 2\nrefused b "" main\nspawned a "" main 100\nturn\n'
+        found, status = initd(stdin=f"{ALONE}%script\n{alone}")
+        self.check("a job alone", (found.splitlines(), status), (wanted, 0))
+        found, status = initd(stdin=f"{ALONE}{FAILING}%script\n{beside}")
+        self.check("a job beside one that fails", (lines_of("a", found), status), (wanted, 0))
+        self.check("the one that fails", 'event stopping JOB="b" INSTANCE="" RESULT="failed" PROCESS="main"' in found, True)
+
+    def test_a_long_wait(self):
+        """Between the two events that a job waits for a hundred thousand others come and go."""
+        wanted = [
+            'event starting JOB="a" INSTANCE=""',
+            'spawn a main "/bin/d"',
+            '  X="1"',
+            '  UPSTART_EVENTS="A B"',
+            '  UPSTART_JOB="a"',
+            '  UPSTART_INSTANCE=""',
+            'event started JOB="a" INSTANCE=""',
+        ]
+        script = "emit A X=1\nturn 2\n" + "emit Z\nturn 2\n" * 100_000 + 'emit B\nturn 3\nspawned a "" main 100\n'
+        found, status = initd(stdin=f"{WAITING}%script\n{script}")
+        self.check("a long wait", (found.splitlines(), status), (wanted, 0))
+
+    def test_many_turns(self):
+        """A hundred million turns that find no event take no time, and what comes after them is the same."""
+        wanted = ['event starting JOB="a" INSTANCE=""', 'spawn a main "/bin/d"', '  UPSTART_EVENTS="go"', '  UPSTART_JOB="a"', '  UPSTART_INSTANCE=""', 'event started JOB="a" INSTANCE=""']
+        script = "emit go\n" + "turn 1000000\n" * 100 + 'spawned a "" main 100\n'
+        found, status = initd(stdin=f"%file a.conf\nstart on go\nexec /bin/d\n%script\n{script}")
+        self.check("many turns", (found.splitlines(), status), (wanted, 0))
