@@ -6,7 +6,6 @@ import socket
 import struct
 import subprocess
 import threading
-import unittest
 
 from harness import INITCTL, INITD, PATIENCE, Case, ran, wait_for, write
 

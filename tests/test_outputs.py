@@ -4,7 +4,6 @@ initd then ends with status 3 and initctl with 1 (initd(8) and initctl(8), "Exit
 null device there, so that its status is that of the command.
 """
 import os
-import unittest
 
 from harness import INITCTL, INITD, TOP, Case, ran, write
 

@@ -1,5 +1,5 @@
 //! What is printed for bundles whose reader or writer fails, for folders, inputs and outputs. Whole bundles stand in `tests/rows` and
-//! `tests/bundles.py`, and the built program replays them.
+//! `tests/test_bundles.py`, and the built program replays them.
 mod advice;
 mod distribution;
 mod folders;
