@@ -57,6 +57,10 @@ class Front(Case):
         four = re.findall(r"^- \*\*[^\n]*", README, flags=re.M)
         self.check("four things that no other init does", len(four), 4)
 
+    def test_crates(self):
+        for page in sorted((TOP / "crates").glob("*/README.md")):
+            self.check(f"the length of {page.relative_to(TOP)}", len(page.read_text().splitlines()) <= 40, True)
+
     def test_links(self):
         pages = [TOP / "README.md", TOP / "CHANGELOG.md", *(TOP / "docs").glob("*.md"), *(TOP / "crates").glob("*.md"), *(TOP / "crates").glob("*/README.md")]
         for page in sorted(pages):
