@@ -5,10 +5,10 @@
 # make install       copies the programs, pages and completions below PREFIX and DESTDIR; make uninstall removes them
 # make dist          packs them for machines without Rattle
 # make clean         removes all that was built here
-PREFIX = /usr/local
-DESTDIR =
-JOBS =
-VERBOSE =
+PREFIX ?= /usr/local
+DESTDIR ?=
+JOBS ?=
+VERBOSE ?=
 NAME =
 
 all:

@@ -1,8 +1,10 @@
 """`make`, with another `rt` in the place of Rattle's: what it builds and says, and how it ends; what `make dist` packs; and what `make install` copies."""
+import contextlib
 import hashlib
 import importlib.machinery
 import importlib.util
 import os
+import pathlib
 import shutil
 import signal
 import subprocess
@@ -166,7 +168,8 @@ class Building(Case):
         self.rooms.mkdir()
         (self.bin / "rt").write_text(RT)
         (self.bin / "rt").chmod(0o755)
-        self.how = {"cwd": self.tree, "env": {**os.environ, "TMPDIR": str(self.rooms), "PATH": f"{self.bin}:{os.environ['PATH']}"}}
+        own = {key: value for key, value in os.environ.items() if key not in ("JOBS", "VERBOSE", "MAKEFLAGS")}
+        self.how = {"cwd": self.tree, "env": {**own, "TMPDIR": str(self.rooms), "PATH": f"{self.bin}:{os.environ['PATH']}"}}
 
     def make(self, *words):
         """What `make` prints, without the times, and its status."""
@@ -177,6 +180,14 @@ class Building(Case):
     def calls(self):
         file = self.bin / "calls"
         return file.read_text().splitlines() if file.exists() else []
+
+    def living(self):
+        """The processes that run this test's `rt`."""
+        found = []
+        for path in pathlib.Path("/proc").glob("[0-9]*/cmdline"):
+            with contextlib.suppress(OSError):
+                found += [path.parent.name] * (str(self.bin / "rt").encode() in path.read_bytes())
+        return found
 
     def test_a_whole_build(self):
         lines, status, errors = self.make("JOBS=3", "demo")
@@ -220,13 +231,12 @@ class Building(Case):
     def test_an_interrupt(self):
         (self.bin / "waits").write_text("")
         child = subprocess.Popen([self.tree / "tools" / "build"], stdin=subprocess.DEVNULL, stdout=subprocess.PIPE, text=True, **self.how)
-        self.check("it works", wait_for(lambda: self.calls()), True)
+        self.check("it works", (wait_for(lambda: self.calls()), len(self.living())), (True, 1))
         child.send_signal(signal.SIGINT)
         said = child.communicate(timeout=30 * PATIENCE)[0]
         self.check("it ends, and says how to go on", (child.returncode, "the next call goes on" in said), (130, True))
         self.check("nothing is left", os.listdir(self.rooms), [])
-        living = ran(["pgrep", "-f", str(self.bin / "rt")]).stdout
-        self.check("rt ended, too", living, "")
+        self.check("rt ended, too", self.living(), [])
         (self.bin / "waits").unlink()
         self.check("called again it builds", self.make()[1], 0)
 
