@@ -29,7 +29,7 @@ ELSEWHERE = {
 # What isn't part of the sources.
 LEFT_OUT = {".git", "out", "__pycache__"}
 # The files whose words count as names: a page can't vouch for another.
-SOURCES = (".rt", ".antt", ".py", ".txt", ".edit", ".5", ".8", "")
+SOURCES = (".rt", ".antt", ".py", ".txt", ".5", ".8", "")
 ENDINGS = "rt|antt|md|py|svg|bundle|out|record|edit|lint|dot|txt|blame"
 PATH = re.compile(r"[\w.*-]+(/[\w.*-]+)+/?")
 FILE = re.compile(rf"[\w*-]+\.({ENDINGS})")
@@ -49,6 +49,11 @@ def tree():
     return found
 
 
+def ends_of(path):
+    """A path as it may be named: whole, or without its first folders."""
+    return ["/".join(path.parts[at:]) for at in range(len(path.parts))]
+
+
 def code_of(path):
     """A source without its comments, where they could name what is gone."""
     text = path.read_text(errors="replace")
@@ -65,13 +70,18 @@ def named(text):
 class Names(Case):
     def test_pages(self):
         files = tree()
-        paths = {str(path.relative_to(TOP)) for path in files}
-        ends = {path[at:] for path in paths for at in [0, *(found.end() for found in re.finditer("/", path))]}
+        ends = {end for path in files for end in ends_of(path.relative_to(TOP))}
         words = set()
         for path in files:
             if path.is_file() and path.suffix in SOURCES and path.name != "test_names.py":
                 words.update(re.findall(r"\w+", code_of(path)))
         words |= {path.stem for path in files}
+        # (the gate tests in a copy without wrong bodies, beside the whole one)
+        for bodies in (TOP, TOP.parent / "whole"):
+            if edits := sorted((bodies / "crates").glob("*/must-fail/*")):
+                break
+        words |= {path.stem for path in edits}
+        ends |= {end for edit in edits for path in (edit, edit.parent) for end in ends_of(path.relative_to(bodies))}
 
         def stands(name, page):
             if name in ELSEWHERE:
