@@ -76,11 +76,12 @@ class Front(Case):
 
     def test_the_two_commands(self):
         found = [block for block, _, _ in blocks(README)]
-        self.check("the blocks of README.md", len(found), 6)
-        tried, printed, first, second, _, _ = found
+        self.check("the blocks of README.md", len(found), 7)
+        tried, printed, warning, first, second, _, _ = found
         self.check("what is tried without a proof", tried, "(cd crates/initd && rt try < ../../examples/one-service.bundle)\n")
         stored = (TOP / "examples" / "one-service.out").read_text()
         self.check("what that prints", printed, stored)
+        self.check("a warning", warning in initd("lint", TOP / "examples" / "recipes" / "does-not-start")[0], True)
         for command, wanted in ((first, "crates/initd/out/initd < examples/one-service.bundle"), (second, "tests/gate")):
             made = ran(["make", "-n", *command.split()[1:]], cwd=TOP)
             self.check(command.strip(), (command.split()[0], made.returncode, made.stdout.splitlines()[-1]), ("make", 0, wanted))
