@@ -1,23 +1,38 @@
-# Installs what is built: `make install PREFIX=/usr/local DESTDIR=`. The programs are built by `rt run` in their crates, as README.md says.
-# `make test` runs the tests of the built programs, `make test NAME=test_limits.Limits` those that are named.
+# make               proves and builds initd and initctl on all processors: JOBS=2 on two, VERBOSE=1 with all that rt says
+# make demo          the same, and replays one service: README.md's first command
+# make check         the gate, its second: proofs, tests, wrong bodies, programs
+# make test          the tests of the built programs; NAME=test_limits.Limits those that are named
+# make install       copies the programs, pages and completions below PREFIX and DESTDIR; make uninstall removes them
+# make dist          packs them for machines without Rattle
+# make clean         removes all that was built here
 PREFIX ?= /usr/local
+DESTDIR ?=
+JOBS ?=
+VERBOSE ?=
+NAME =
 
-SBIN = $(DESTDIR)$(PREFIX)/sbin
-MAN = $(DESTDIR)$(PREFIX)/share/man
-COMPLETION = $(DESTDIR)$(PREFIX)/share/bash-completion/completions
+all:
+	@JOBS='$(JOBS)' VERBOSE='$(VERBOSE)' tools/build
 
-install:
-	install -d $(SBIN) $(MAN)/man5 $(MAN)/man8 $(COMPLETION)
-	install -m 755 crates/initd/out/initd crates/initctl/out/initctl $(SBIN)
-	install -m 644 docs/man/init.5 $(MAN)/man5
-	install -m 644 docs/man/initd.8 docs/man/initctl.8 $(MAN)/man8
-	install -m 644 completion/initd completion/initctl $(COMPLETION)
+demo: all
+	crates/initd/out/initd < examples/one-service.bundle
 
-uninstall:
-	rm -f $(SBIN)/initd $(SBIN)/initctl $(MAN)/man5/init.5 $(MAN)/man8/initd.8 $(MAN)/man8/initctl.8
-	rm -f $(COMPLETION)/initd $(COMPLETION)/initctl
+check:
+	tests/gate
 
 test:
 	tests/programs $(NAME)
 
-.PHONY: install uninstall test
+install:
+	PREFIX='$(PREFIX)' DESTDIR='$(DESTDIR)' tools/install
+
+uninstall:
+	PREFIX='$(PREFIX)' DESTDIR='$(DESTDIR)' tools/install --uninstall
+
+dist: all
+	tools/dist
+
+clean:
+	rm -rf out crates/*/out tadrovec-*.tar.gz
+
+.PHONY: all demo check test install uninstall dist clean

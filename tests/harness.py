@@ -148,7 +148,7 @@ class Case(unittest.TestCase):
 
     def setUp(self):
         for program in (INITD, INITCTL):
-            self.assertTrue(program.exists(), f"{program} isn't there: run rt run in its crate's folder")
+            self.assertTrue(program.exists(), f"{program} isn't there: `make` builds it")
         room = tempfile.TemporaryDirectory()
         self.addCleanup(room.cleanup)
         self.work = pathlib.Path(room.name)

@@ -1,4 +1,4 @@
-"""The completions of bash, with an initctl in the place of the built one; what `make install` copies; and the manual pages."""
+"""The completions of bash, with an initctl in the place of the built one; and the manual pages."""
 import os
 import shlex
 import shutil
@@ -61,27 +61,6 @@ class Completion(Case):
             (["chart", "--"], ["--bundle", "--help"]),
         ]:
             self.check(f"initd {' '.join(words)}", sorted(self.completed("initd", *words)), wanted)
-
-    def test_installation(self):
-        """What is copied, and that it is taken away again."""
-
-        def files():
-            return sorted(str(path.relative_to(self.work)) for path in self.work.rglob("*") if path.is_file())
-
-        def make(goal):
-            return ran(["make", "-s", "-C", TOP, goal, f"DESTDIR={self.work}", "PREFIX=/usr"]).returncode
-
-        wanted = [
-            "usr/sbin/initctl",
-            "usr/sbin/initd",
-            "usr/share/bash-completion/completions/initctl",
-            "usr/share/bash-completion/completions/initd",
-            "usr/share/man/man5/init.5",
-            "usr/share/man/man8/initctl.8",
-            "usr/share/man/man8/initd.8",
-        ]
-        self.check("make install", (make("install"), files()), (0, wanted))
-        self.check("make uninstall", (make("uninstall"), files()), (0, []))
 
     def test_pages(self):
         """groff formats the manual pages without a warning."""

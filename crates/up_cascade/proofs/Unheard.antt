@@ -1,19 +1,19 @@
 -- A job that doesn't hear of an event is passed by: the book stands for what it makes of the chronicle without being told.
 use Rattle.up_cascade.proofs.Names.{◌≡◌, ℕ, zero, suc, ◌+◌, ◌≤◌, ◌==◌, Bool, true, false, List, [], ◌∷◌, ◌++◌, length}
-use Rattle.up_cascade.proofs.Names.{Option, None, Some, if◌then◌else◌, refl, sym, ◌∙◌, ap, subst, arith, append_assoc}
+use Rattle.up_cascade.proofs.Names.{nat_lt, Option, None, Some, if◌then◌else◌, refl, sym, ◌∙◌, ap, subst, arith, append_assoc}
 use Rattle.up_cascade.proofs.Names.{◌||◌, append-nil, AllByRecursion, JobDef, Event, Turn, Chronicle, Given, Handled}
 use Rattle.up_cascade.proofs.Names.{Offered, StartOn, Expression, StopOn, Configuration, due, Instance, instances_of}
 use Rattle.up_cascade.proofs.Names.{wait_in, may_leave, stop_offer, start_offer, state_of, seen, holds, Bytes}
 use Rattle.up_cascade.proofs.Names.{HasFile, files, nth, AreDistinct, nth-get, settle_one, settle_each, hear_stops}
 use Rattle.up_cascade.proofs.Names.{hear, hear_all, NoneHolds}
-use Rattle.std.proofs.Common.{◌-◌, ◌<◌, drop, length-append, eqb-true, ne_eqb}
+use Rattle.std.proofs.Common.{◌-◌, ◌<◌, drop, length-append, eqb-true, ne_eqb, ltb-false, ltb-true}
 use Rattle.up_job.specs.declared.instance_key.InstanceKey.{InstanceKey}
 use Rattle.up_marks.specs.Ruling.{may_hear}
 use Rattle.up_marks.specs.Skipping.{Stops, Starts}
 use Rattle.up_marks.proofs.Ruled.{unheard-offer, holds-unheard}
 use Rattle.up_model.specs.declared.event_id.EventId.{EventId}
 use Rattle.up_model.specs.Readings.{entry_at, event_of, event_at, file_of}
-use Rattle.up_book.specs.Hearers.{AreDeaf, IsDeaf, one_hears}
+use Rattle.up_book.specs.Hearers.{AreDeaf, IsDeaf, IsNextHearer, one_hears}
 use Rattle.up_book.specs.Keys.{job_at, instance_at, instance_place}
 use Rattle.up_book.proofs.Keyed.{job-there}
 use Rattle.up_cascade.specs.Unheard.{AreUnheard, NoneHears}
@@ -68,7 +68,7 @@ passed-then : (stands : Chronicle → Type 0) (places : Chronicle → EventId �
     → Passed stands places config e event job d f → Passed stands places config e event job c f
 passed-then stands places config e event job c d f told lists p = record { stood = p.stood; known = p.known; told = p.told ∙ told; lists = λ name. p.lists name ∙ lists name; rest = p.rest; untrue = p.untrue }
 
-some-same : {X : Type 0} {x y : X} → Some x ≡ Some y → x ≡ y
+pub some-same : {X : Type 0} {x y : X} → Some x ≡ Some y → x ≡ y
 some-same e = cc
 
 -- an offer changes nothing about who hears of the event
@@ -309,3 +309,15 @@ hears-none config n job event c none there heard =
     let its = none n job there in
     let both : true ≡ false = sym heard ∙ ap (λ (b : Bool). b || one_hears event (instances_of job.name c)) its.0 ∙ deaf-none event (instances_of job.name c) its.1 in
     absurd cc
+
+-- nor does the one that was looked at, if it is deaf, so that none does up to the next
+pub unheard-on : (config : Configuration) (event : Option Event) (c : Chronicle) (from at index : ℕ) → AreUnheard config event c from at → IsNextHearer config event c at (Some index)
+    → ((job : JobDef) → job_at config index ≡ Some job → IsDeaf job event c) → AreUnheard config event c from (index + 1)
+unheard-on config event c from at index before next here n job after within there = by_place (nat_lt n at) (nat_lt n index) refl refl
+  where
+    by_place : (b d : Bool) → nat_lt n at ≡ b → nat_lt n index ≡ d → IsDeaf job event c
+    by_place true d low is = before n job after (ltb-true n at low) there
+    by_place false true high low = next.1 n job (ltb-false n at high) (ltb-true n index low) there
+    by_place false false high same =
+        let it : n ≡ index = omega (arith, ltb-false n index same, within) in
+        here job (subst (λ m. job_at config m ≡ Some job) it there)

@@ -1,6 +1,6 @@
 -- The statuses of the program (initctl(8), EXIT STATUS).
 use Rattle.std.specs.Prelude.{◌≡◌, ◌⊎◌, false, Result, Ok, Err, alloc_error}
-use Rattle.core.specs.declared.alloc.AllocError.{AllocError}
+use Rattle.std.specs.declared.alloc.AllocError.{AllocError}
 use Rattle.up_client.specs.declared.talk.TalkFault.{TalkFault}
 use Rattle.up_client.specs.declared.talk.TalkFault.TheVariants.{Lost, Memory as OutOfMemory}
 use Rattle.up_model.specs.declared.exit_status.ExitStatus.{ExitStatus}

@@ -1,7 +1,7 @@
 """Docs/RECIPES.md and docs/RECIPES_OPERATION.md: the files that they show are those of examples/recipes, the folders have no warnings, what they
 tell someone to type is typed, and what they say is printed is printed.
 
-    python3 -m unittest tests/recipes.py
+    tests/programs test_recipes
 """
 import contextlib
 import os
