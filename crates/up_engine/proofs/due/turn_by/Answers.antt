@@ -1,6 +1,5 @@
-use Rattle.std.proofs.Common.{◌||◌, ◌≡◌, ◌∙◌, ◌∷◌, true, false, ap, subst}
-use Rattle.up_book.specs.Hearers.{hears, one_hears}
-use Rattle.up_model.specs.Instances.{instances_of}
+use Rattle.std.proofs.Common.{◌≡◌, ◌∷◌, true, false, ap, subst, sym}
+use Rattle.up_book.specs.Hearers.{IsDeaf}
 use Rattle.up_engine.proofs.FreeLemmas.{event-handled}
 use Rattle.up_model.specs.declared.input.Input.TheVariants.{Turn}
 use Rattle.up_model.specs.Chronicle.{Given}
@@ -44,6 +43,6 @@ returns-in-Handle-clause-free g c config c' e s known found free =
       (
         c.handle.ensures.events config c' e s known,
         λ n job there.
-            ap (λ event. hears job event || one_hears event (instances_of job.name c')) (event-handled e e (Given Turn ∷ c')) ∙ (rw is at free) n job there,
+            subst (λ event. IsDeaf job event c') (sym (event-handled e e (Given Turn ∷ c'))) ((rw is at free) n job there),
       ),
     )
