@@ -2,7 +2,7 @@
 import socket
 import struct
 
-from harness import Case, initd, wait_for, write
+from harness import INITD, Case, ran, wait_for, write
 
 # As many jobs as a folder may have.
 MOST = 1024
@@ -33,8 +33,8 @@ RUNNING, WAITING = "start/running, process {}", "stop/waiting"
 class Replacing(Case):
     def replay(self, folders, script):
         """What a replay prints last, with its status."""
-        told, status = initd(stdin="%folder\n".join(map(folder_of, folders)) + "%script\n" + script)
-        return told.splitlines()[-1] if told else "", status
+        made = ran([INITD], seconds=600, input="%folder\n".join(map(folder_of, folders)) + "%script\n" + script)
+        return made.stdout.splitlines()[-1] if made.stdout else "", made.returncode
 
     def check_list(self, found, wanted):
         (line, status), text = found, "\\n".join(sorted(wanted, key=lambda line: line.split()[0].encode()))
@@ -103,7 +103,7 @@ class Replacing(Case):
         with self.running("tables", folder) as run:
             for load in range(3):
                 self.check("all are started", self.ask(run, self.EMIT, "go"), (True, ""))
-                self.check("and run", wait_for(lambda: self.lives(run) == (load + 1) * MOST, 120), True)
+                self.check("and run", wait_for(lambda: self.lives(run) == (load + 1) * MOST, 300), True)
                 self.exchange(folder, names(load + 1))
                 self.check("others are loaded", self.ask(run, self.RELOAD), (True, ""))
             self.check("all are listed", len(self.ask(run, self.LIST)[1].splitlines()), 4 * MOST)
