@@ -73,7 +73,7 @@ class CommandLines(Case):
         for line, wanted in ASKED:
             self.check(f"initd {line.replace(',', ' ')}", initd_said(*line.split(","), cwd=self.work), (wanted, "", 0))
         self.check("--record wrote a record, and --tell a file", [(self.work / name).is_file() for name in ("r", "t")], [True, True])
-        self.check("initd --version", initd_said("--version", cwd=self.work), ("initd 0.1.0\n", "", 0))
+        self.check("initd --version", initd_said("--version", cwd=self.work), ("initd 1.0.0\n", "", 0))
         printed, said, status = initd_said("--help", cwd=self.work)
         self.check("initd --help", ("Usage: initd" in printed, said, status), (True, "", 0))
 

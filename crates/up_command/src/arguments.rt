@@ -308,7 +308,7 @@ fn add<'a>(
 
 /// The commands of the program. Without a command it reads a bundle from standard input.
 pub(crate) fn command<'a>(alloc: Global) -> Result<Command<'a>, AllocError> {
-    let mut line = Command::new(alloc, "initd").version("0.1.0").about(
+    let mut line = Command::new(alloc, "initd").version("1.0.0").about(
         "Runs and replays job files; without a command, replays a bundle from standard input",
     );
     for subcommand in &SUBCOMMANDS {
