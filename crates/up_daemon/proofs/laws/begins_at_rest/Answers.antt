@@ -1,4 +1,4 @@
-use Rattle.std.proofs.Common.{◌≡◌, ℕ, Bool, false, [], List, subst, sym, ap, if◌then◌else◌, tt}
+use Rattle.std.proofs.Common.{◌≡◌, ℕ, Bool, false, [], List, subst, sym, ap, if◌then◌else◌}
 use Rattle.up_daemon.specs.Connected.{AreConnected}
 use Rattle.up_daemon.specs.Exchanges.{IsNumbered}
 use Rattle.up_daemon.specs.Peers.{Peer, numbers_of}
