@@ -7,7 +7,7 @@ import unittest
 from bodies import kept, verdicts
 from bodies.edits import Bad, Body, read_bodies, read_body
 from bodies.functions import Function, functions_of, homes_of
-from bodies.rooms import checks_of, furnish, without_answers
+from bodies.rooms import PROBE, RIGHT, WRONG, answers_left, checks_of, furnish, without_answers
 from bodies.verdicts import BAD, OTHER, PROVED, REFUSED, UNSURE, Result
 
 CHECKS = pathlib.Path(__file__).resolve().parent / "checks"
@@ -73,11 +73,11 @@ class OfACrate(unittest.TestCase):
     def read_all(self):
         return read_bodies(self.crate / "must-fail", self.crate, homes_of(self.crate))
 
-    def furnished(self, bodies, right=False):
+    def furnished(self, bodies, mode=WRONG):
         room = tempfile.TemporaryDirectory()
         self.addCleanup(room.cleanup)
         (check,) = checks_of(self.crate, bodies)
-        return pathlib.Path(room.name), furnish(check._replace(right=right), pathlib.Path(room.name), False)
+        return pathlib.Path(room.name), furnish(check._replace(mode=mode), pathlib.Path(room.name), False)
 
     EVEN = "file: src/lib.rt\nold: byte % 2 == 0\nnew: byte % 2 == 1\n# goal: returns\n"
     SMALL = "file: src/lib.rt\nold: byte <= MOST\nnew: byte < MOST\n# goal: returns\n"
@@ -153,7 +153,7 @@ class Rooms(OfACrate):
         self.edit("one.edit", self.EVEN)
         self.edit("two.edit", self.EVEN.replace("== 1", "== 2"))
         bodies, _ = self.read_all()
-        room, functions = self.furnished(bodies, right=True)
+        room, functions = self.furnished(bodies, RIGHT)
         self.assertEqual([it.proofs for found in functions.values() for it in found], ["is_even", "is_even_2"])
         self.assertEqual((room / "src/lib.rt").read_text().count("byte % 2 == 0"), 2)
 
@@ -174,6 +174,16 @@ class Rooms(OfACrate):
         self.assertNotIn("two", (room / "proofs/is_even_2/Answers.antt").read_text())
         self.assertIn("proofs.is_even_2.Goals as goal", (room / "proofs/is_even_2/Answers.antt").read_text())
 
+    def test_a_probe_has_holes_for_the_named_goals(self):
+        self.edit("one.edit", self.EVEN)
+        (body,), _ = self.read_all()
+        room, _ = self.furnished([body], PROBE)
+        text = (room / "proofs/is_even/Answers.antt").read_text()
+        self.assertTrue(text.endswith("\npub returns : goal.returns\nreturns = ?\n"))
+        self.assertIn("byte % 2 == 0", (room / "src/lib.rt").read_text())
+        self.assertTrue(answers_left(body, self.crate))
+        self.assertFalse(answers_left(body._replace(goals=["returns", "returns-clause-two"]), self.crate))
+
     def test_answers_are_taken_away_whole(self):
         self.assertEqual(
             without_answers(ANSWERS, ["returns"]),
@@ -188,18 +198,20 @@ class Rooms(OfACrate):
 class Verdicts(unittest.TestCase):
     """What is said of a wrong body, by what the prover printed. The first line of each stored check has its status, and the function that was changed."""
 
-    def judged(self, name, *goals, others=0):
+    def stored(self, name, goals, others=0):
+        """A body that names these goals, and others far from it; the functions that they change, and the status and the lines of a stored check."""
         first, *said = (CHECKS / f"{name}.txt").read_text().split("\n")
         words = dict(word.split("=") for word in first.split())
-        lines = [int(it) for it in words["lines"].split("-")]
-        path = words["function"]
-        function = Function(words["file"], path.rpartition("/")[2], lines[0] - 1, lines[1] - 1, path, "", True)
-        bodies = [Body("a.edit", [], "", list(goals), [function], False, "")]
+        begins, ends = map(int, words["lines"].split("-"))
+        function = Function(words["file"], words["function"].rpartition("/")[2], begins - 1, ends - 1, words["function"], "", True)
         far = function._replace(first=100000, last=100001, proofs="elsewhere")
+        bodies = [Body("a.edit", [], "", goals, [function], False, "")]
         bodies += [Body(f"{it}.edit", [], "", ["returns"], [far], False, "") for it in range(others)]
-        functions = {body.name: body.functions for body in bodies}
-        found = verdicts.judge(bodies, functions, int(words["status"]), said)
-        self.assertTrue(all(found[it.name].verdict == UNSURE for it in bodies[1:]))
+        return bodies, {body.name: body.functions for body in bodies}, int(words["status"]), said
+
+    def judged(self, name, *goals, others=0):
+        found = verdicts.judge(*self.stored(name, list(goals), others))
+        self.assertTrue(all(it.verdict == UNSURE for name, it in found.items() if name != "a.edit"))
         return found["a.edit"]
 
     def test_an_open_goal_that_it_names_refuses(self):
@@ -223,6 +235,13 @@ class Verdicts(unittest.TestCase):
 
     def test_a_function_that_calls_holes_is_not_refused(self):
         self.assertEqual(self.judged("proved_over_holes", "returns-else-begins").verdict, PROVED)
+
+    def test_a_function_that_calls_what_is_not_proved_is_not_refused(self):
+        self.assertEqual(self.judged("calls_unproved", "read_inner-requires-clause-inverted").verdict, PROVED)
+
+    def test_goals_of_the_right_body(self):
+        bodies, functions, _, said = self.stored("probe", ["returns-clause-shorter", "returns-in-Nothing"])
+        self.assertEqual(verdicts.probed(bodies, functions, said)["a.edit"].goals, ["returns-clause-shorter"])
 
     def test_a_limit_says_nothing(self):
         result = self.judged("limit", "returns-then-byte-ne42")
@@ -258,9 +277,9 @@ class Kept(unittest.TestCase):
     def test_settled_results_are_kept(self):
         store = kept.Kept(self.room / "results", False)
         for verdict in (REFUSED, PROVED, OTHER, BAD, UNSURE):
-            store.put(verdict, Result(verdict, "why"))
+            store.put(verdict, Result(verdict, "why", ["a"]))
         found = {it: store.get(it) for it in (REFUSED, PROVED, OTHER, BAD, UNSURE)}
-        self.assertEqual(found, {it: Result(it, "why") if it in verdicts.SETTLED else None for it in found})
+        self.assertEqual(found, {it: Result(it, "why", ["a"]) if it in verdicts.SETTLED else None for it in found})
         self.assertIsNone(kept.Kept(self.room / "results", True).get(REFUSED))
 
     def test_a_broken_result_counts_for_nothing(self):
@@ -288,7 +307,11 @@ class Kept(unittest.TestCase):
 
     def test_kinds(self):
         for wrong, right, kind in [(REFUSED, PROVED, "good"), (REFUSED, REFUSED, "by-hand"), (REFUSED, OTHER, "by-hand"), (PROVED, PROVED, None), (REFUSED, UNSURE, None)]:
-            self.assertEqual(kept.kind_of(Result(wrong, ""), Result(right, "")), kind)
+            self.assertEqual(kept.kind_of(Result(wrong, "", ["a", "b"]), Result(right, ""), None), kind)
+
+    def test_a_goal_that_the_right_body_has_under_another_name_is_by_hand(self):
+        for goals, kind in [(["b"], "good"), (["c"], "by-hand"), ([], "by-hand")]:
+            self.assertEqual(kept.kind_of(Result(REFUSED, "", ["a", "b"]), Result(PROVED, ""), Result(PROVED, "", goals)), kind)
 
     def test_kinds_are_stored(self):
         path = self.room / "kinds"

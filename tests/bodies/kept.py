@@ -7,7 +7,7 @@ import time
 
 from bodies.functions import answers_of
 from bodies.rooms import PARTS
-from bodies.verdicts import SETTLED, Result
+from bodies.verdicts import PROVED, REFUSED, SETTLED, Result
 
 # Days for which a result stays that no run asks for.
 STAYS = 30
@@ -96,11 +96,12 @@ def sum_of_kind(body, crate):
     return sum_of(*told)[:12]
 
 
-def kind_of(wrong, right):
-    """The kind of a wrong body, by what the search says of it and of the right one; None if it has none, as a weak contract lets it through."""
-    if wrong.verdict != "refused" or right.verdict not in SETTLED:
+def kind_of(wrong, right, probe):
+    """The kind of a wrong body, by what the search says of it and of the right one; None if it has none, as a weak contract lets it through. A goal that the
+    right body has under another name may have an answer there: so where it has answers left, it must have a goal that is refused in the wrong body."""
+    if wrong.verdict != REFUSED or right.verdict not in SETTLED or probe and probe.verdict not in SETTLED:
         return None
-    return GOOD if right.verdict == "proved" else BY_HAND
+    return GOOD if right.verdict == PROVED and (not probe or set(probe.goals) & set(wrong.goals)) else BY_HAND
 
 
 def read_kinds(path):

@@ -11,8 +11,10 @@ PARTS = ("src", "specs", "proofs")
 # The files of a function's proof that a copy can have too.
 COPIED = {"Answers.antt", "Invariants.antt"}
 
-# `right` is whether the functions are checked as they are, and not with their wrong bodies.
-Check = collections.namedtuple("Check", "crate bodies right")
+# What is checked: wrong bodies; the functions as they are; or these with a hole as the answer to each goal that a wrong body names, to see which there are.
+WRONG, RIGHT, PROBE = "wrong", "right", "probe"
+
+Check = collections.namedtuple("Check", "crate bodies mode")
 
 
 def units(body):
@@ -87,7 +89,7 @@ def checks_of(crate, bodies):
             checks[0].append(in_copy(body, crate, checks[0]))
         else:
             checks.append([body])
-    return [Check(crate, it, False) for it in checks + alone]
+    return [Check(crate, it, WRONG) for it in checks + alone]
 
 
 def with_hunks(lines, hunks, first=0):
@@ -128,6 +130,12 @@ def without_answers(text, goals):
     return "\n".join(kept) if any(re.match(r"(?:abbrev |unfoldable )?pub ", line) for line in kept) else None
 
 
+def answers_left(body, crate):
+    """Whether the functions of a wrong body have answers to other goals than it names."""
+    paths = [it for it in (answers_of(function, crate) for function in body.functions) if it.is_file()]
+    return any(without_answers(it.read_text(), body.goals) is not None for it in paths)
+
+
 def leave_contracts(room, crate, kept):
     """Takes the bodies out of all functions but those with these proofs, and makes holes of their proofs. Lines keep their numbers."""
     homes = homes_of(room)
@@ -159,7 +167,7 @@ def furnish(check, room, whole):
     for file in {hunk.file for body in check.bodies for hunk in body.hunks}:
         lines, hunks = (check.crate / file).read_text().split("\n"), []
         for body in check.bodies:
-            own = [it for it in body.hunks if it.file == file and not check.right]
+            own = [it for it in body.hunks if it.file == file and check.mode == WRONG]
             hunks += [copied(body, lines, own)] if body.copy and body.functions[0].file == file else own
         (room / file).write_text("\n".join(with_hunks(lines, hunks)))
     now = {file: functions_of(file, (room / file).read_text().split("\n"), homes) for file in {it.file for body in check.bodies for it in body.functions}}
@@ -174,7 +182,8 @@ def furnish(check, room, whole):
         for path in {answers_of(it, room) for it in changed[body.name]}:
             if path.is_file():
                 left = without_answers(path.read_text(), body.goals)
-                path.write_text(left) if left is not None else path.unlink()
+                holes = "".join(f"\npub {goal} : goal.{goal}\n{goal} = ?\n" for goal in body.goals) if check.mode == PROBE else ""
+                path.write_text(left + holes) if left is not None else path.unlink()
     if not whole:
         leave_contracts(room, check.crate.name, {it.proofs for functions in changed.values() for it in functions})
     return changed

@@ -10,12 +10,16 @@ from bodies.functions import path_of
 REFUSED, PROVED, OTHER, BAD, UNSURE = "refused", "proved", "other", "bad", "unsure"
 SETTLED = (REFUSED, PROVED, OTHER)
 
-Result = collections.namedtuple("Result", "verdict reason")
+# `goals` are those that the wrong body names and the search leaves open.
+Result = collections.namedtuple("Result", "verdict reason goals", defaults=((),))
 
 # Lines of `rattle check`: where something is; that a search left a goal open; what it says of a function; the last line.
 PLACE = re.compile(r"(?:note: )?(?:\./)?(?P<file>\S+?):(?P<line>\d+):\d+: (?P<what>.*)")
 OPEN = re.compile(r"it is not proved that .*?\(`(?P<goal>[^`]+)`\)")
-FUNCTION = re.compile(r"fn \w+::(?P<name>\S+): (?P<verdict>proved|no holes|depends on a hole|not proved|no proof|could not tell)")
+FUNCTION = re.compile(r"fn \w+::(?P<name>\S+): (?P<verdict>proved|no holes|depends on a hole|not proved|no proof|could not tell)(?P<rest>.*)")
+# The rest of such a line, if a function lacks nothing but a proof of what it calls: of another wrong body of the check, say.
+CALLS = re.compile(r": it calls [^;]*, which (is|are) not proved")
+HOLD = ("proved", "no holes", "depends on a hole")
 ENDED = re.compile(r"only=\d+ ")
 # The prover's words for limits that are its own, and not a search's; and for a library's kept work that it can't use.
 LIMIT = re.compile(r"antt ran out of (stack|the (steps|memory) that the check of one declaration may (take|use))|(outgrew the memory limit|stopped at the step limit) \(")
@@ -55,12 +59,14 @@ def of_body(body, functions, status, said):
     if unread:
         return Result(BAD, f"the prover can't read the edited text: {unread}")
     told = {it["name"]: it for it in map(FUNCTION.match, said) if it}
-    verdicts = [told[path_of(it)]["verdict"] if path_of(it) in told else "" for it in functions]
+    told = [told.get(path_of(it)) for it in functions]
+    verdicts = [it["verdict"] if it else "" for it in told]
     opened = [(it["goal"], place.string) for place in places for it in [OPEN.match(place["what"])] if it]
-    named = [line for goal, line in opened if goal in body.goals]
+    named = {goal: line for goal, line in reversed(opened) if goal in body.goals}
     if status == 1 and named and any(it in ("not proved", "no proof") for it in verdicts):
-        return Result(REFUSED, named[0])
-    if functions and all(it in ("proved", "no holes", "depends on a hole") for it in verdicts):
+        return Result(REFUSED, list(named.values())[-1], sorted(named))
+    errors = [it.string for it in places if re.match(r"error\b", it["what"])]
+    if functions and all(it and (it["verdict"] in HOLD or CALLS.fullmatch(it["rest"]) and not opened and not errors) for it in told):
         return Result(PROVED, "its function is proved")
     if "could not tell" in verdicts or status not in (0, 1):
         return Result(UNSURE, why_nothing(status, said))
@@ -69,8 +75,7 @@ def of_body(body, functions, status, said):
         return Result(OTHER, f"the goals that are left open are {goals}, and it names none of them")
     if all(verdicts) and functions:
         # Only answers are refused, which says nothing of the contract.
-        line = next((it.string for it in places if "error" in it["what"]), next(it.string for it in told.values()))
-        return Result(OTHER, f"no goal is left open, only an answer or what calls it is refused: {line}")
+        return Result(OTHER, f"no goal is left open, only an answer is refused: {[*errors, *(it.string for it in told)][0]}")
     return Result(UNSURE, "the check says nothing of its function")
 
 
@@ -85,6 +90,17 @@ def judge(bodies, functions, status, said):
         own = [it.string for it in errors if any(is_of(it, function) for function in functions[body.name])]
         own += [it.string for it in errors if len(bodies) == 1 and not own]
         results[body.name] = Result(BAD, f"it doesn't compile: {own[0]}") if own else Result(UNSURE, why_nothing(status, said))
+    return results
+
+
+def probed(bodies, functions, said):
+    """Which of the goals that a wrong body names the right body has too, by a check in which their answers are holes."""
+    results = {}
+    for body in bodies:
+        places = [it for it in map(PLACE.match, said) if it and it["file"].endswith("/Answers.antt") and any(is_of(it, one) for one in functions[body.name])]
+        found = [it[1] for place in places for it in [re.match(r"goal \? in `([^`]+)`", place["what"])] if it]
+        ended = any(map(ENDED.match, said))
+        results[body.name] = Result(PROVED if ended else UNSURE, "the right body has these goals", sorted(set(found)))
     return results
 
 
