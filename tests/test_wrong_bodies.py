@@ -8,7 +8,7 @@ from bodies import kept, verdicts
 from bodies.edits import Bad, Body, read_bodies, read_body
 from bodies.functions import Function, functions_of, homes_of
 from bodies.rooms import PROBE, RIGHT, WRONG, answers_left, checks_of, furnish, without_answers
-from bodies.verdicts import BAD, OTHER, PROVED, REFUSED, UNSURE, Result
+from bodies.verdicts import ANSWER, BAD, OTHER, PROVED, REFUSED, UNSURE, Result
 
 CHECKS = pathlib.Path(__file__).resolve().parent / "checks"
 
@@ -91,7 +91,10 @@ class Edits(OfACrate):
         self.edit("kinds.md", "read by people\n")
         bodies, faults = self.read_all()
         self.assertEqual([body.name for body in bodies], ["good.edit"])
-        self.assertEqual(sorted(faults), [("folder", "BAD EDIT: it is a folder: edits are right in must-fail"), ("old.edit.txt", "BAD EDIT: its name doesn't end in .edit")])
+        self.assertEqual(
+            sorted(faults),
+            [("folder", "BAD EDIT: it is a folder: edits are right in must-fail"), ("old.edit.txt", "BAD EDIT: its name doesn't end in .edit")],
+        )
 
     def test_an_edit_that_cannot_be_applied_fails_and_the_others_are_tried(self):
         self.edit("good.edit", self.EVEN)
@@ -143,7 +146,7 @@ class Rooms(OfACrate):
         self.edit("small.edit", self.SMALL)
         bodies, _ = self.read_all()
         room, functions = self.furnished(bodies)
-        self.assertEqual({name: [it.proofs for it in found] for name, found in functions.items()}, {"one.edit": ["is_even"], "small.edit": ["is_small"], "two.edit": ["is_even_2"]})
+        self.assertEqual([it[0].proofs for _, it in sorted(functions.items())], ["is_even", "is_small", "is_even_2"])
         text = (room / "src/lib.rt").read_text()
         self.assertEqual([it.name for it in functions_of("src/lib.rt", text.split("\n"), {})], ["is_small", "is_even", "is_even_2"])
         for line in ("    byte % 2 == 1", "    byte % 2 == 2", "    byte < MOST"):
@@ -187,8 +190,8 @@ class Rooms(OfACrate):
     def test_answers_are_taken_away_whole(self):
         self.assertEqual(
             without_answers(ANSWERS, ["returns"]),
-            "use Rattle.one.proofs.is_even.Goals as goal\n\n-- The other one.\npub returns-clause-two : goal.returns-clause-two\nunfolding is_even\n"
-            "returns-clause-two c = record {\n  a = refl;\n}\n",
+            "use Rattle.one.proofs.is_even.Goals as goal\n\n-- The other one.\npub returns-clause-two : goal.returns-clause-two\n"
+            "unfolding is_even\nreturns-clause-two c = record {\n  a = refl;\n}\n",
         )
         self.assertTrue(without_answers(ANSWERS, ["returns-clause-two"]).endswith("    refl\n\n-- The other one."))
         self.assertEqual(without_answers(ANSWERS, ["returns-clause"]), ANSWERS)
@@ -196,7 +199,7 @@ class Rooms(OfACrate):
 
 
 class Verdicts(unittest.TestCase):
-    """What is said of a wrong body, by what the prover printed. The first line of each stored check has its status, and the function that was changed."""
+    """What is said of a wrong body, by what the prover printed. The first line of each stored check has its status, and the changed function."""
 
     def stored(self, name, goals, others=0):
         """A body that names these goals, and others far from it; the functions that they change, and the status and the lines of a stored check."""
@@ -255,7 +258,14 @@ class Verdicts(unittest.TestCase):
         self.assertEqual(self.judged("no_name", "returns-in-Open").verdict, OTHER)
 
     def test_what_cites_a_refused_answer_refuses_nothing(self):
-        self.assertEqual(self.judged("not_admitted", "returns-clause-end").verdict, OTHER)
+        # Of one answer the check says that what it depends on was not admitted.
+        self.assertEqual(self.judged("no_name", "returns-clause-none").verdict, OTHER)
+
+    def test_an_answer_that_no_longer_fits_refuses_nothing(self):
+        self.assertEqual(self.judged("answer", "returns-clause-pair").verdict, ANSWER)
+
+    def test_goals_that_are_open_for_a_refused_invariant_refuse_nothing(self):
+        self.assertEqual(self.judged("invariant", "returns-clause-admits").verdict, ANSWER)
 
     def test_a_text_that_does_not_compile_is_bad(self):
         result = self.judged("compile_error", "returns-then-byte-ne42")
@@ -276,9 +286,10 @@ class Kept(unittest.TestCase):
 
     def test_settled_results_are_kept(self):
         store = kept.Kept(self.room / "results", False)
-        for verdict in (REFUSED, PROVED, OTHER, BAD, UNSURE):
+        every = (REFUSED, PROVED, OTHER, ANSWER, BAD, UNSURE)
+        for verdict in every:
             store.put(verdict, Result(verdict, "why", ["a"]))
-        found = {it: store.get(it) for it in (REFUSED, PROVED, OTHER, BAD, UNSURE)}
+        found = {it: store.get(it) for it in every}
         self.assertEqual(found, {it: Result(it, "why", ["a"]) if it in verdicts.SETTLED else None for it in found})
         self.assertIsNone(kept.Kept(self.room / "results", True).get(REFUSED))
 
@@ -306,7 +317,8 @@ class Kept(unittest.TestCase):
         self.assertEqual(len(set(sums)), len(sums))
 
     def test_kinds(self):
-        for wrong, right, kind in [(REFUSED, PROVED, "good"), (REFUSED, REFUSED, "by-hand"), (REFUSED, OTHER, "by-hand"), (PROVED, PROVED, None), (REFUSED, UNSURE, None)]:
+        cases = [(REFUSED, PROVED, "good"), (REFUSED, REFUSED, "by-hand"), (REFUSED, OTHER, "by-hand")]
+        for wrong, right, kind in [*cases, (PROVED, PROVED, None), (REFUSED, UNSURE, None)]:
             self.assertEqual(kept.kind_of(Result(wrong, "", ["a", "b"]), Result(right, ""), None), kind)
 
     def test_a_goal_that_the_right_body_has_under_another_name_is_by_hand(self):

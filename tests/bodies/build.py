@@ -76,8 +76,8 @@ def processor_seconds(process):
 
 
 def run_check(words, room, name, times):
-    """Runs a check of a crate in a folder, and returns its status, the lines that it printed and the seconds of one processor that it took. With `times`,
-    prints the seconds of each function."""
+    """Runs a check of a crate in a folder, and returns its status, the lines that it printed and the seconds of one processor that it took. With
+    `times`, prints the seconds of each function."""
     how = {"stdin": subprocess.DEVNULL, "stdout": subprocess.PIPE, "stderr": subprocess.STDOUT, "text": True, "errors": "replace"}
     said, before = [], 0
     with subprocess.Popen([*words, "--progress"] if times else words, cwd=room, **how) as ran:

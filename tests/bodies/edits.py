@@ -9,8 +9,8 @@ from bodies.functions import functions_of, path_of
 NAME = re.compile(r"[A-Za-z0-9_-][A-Za-z0-9_.-]*\.edit")
 
 Hunk = collections.namedtuple("Hunk", "file first last lines function")
-# `functions` are those that the edit changes or names; `copy` is the name of the copy in which a wrong body is, or empty. `alone` is whether no other may
-# be in its check.
+# `functions` are those that the edit changes or names; `copy` is the name of the copy in which a wrong body is, or empty. `alone` is whether no
+# other may be in its check.
 Body = collections.namedtuple("Body", "name hunks copy goals functions alone text")
 
 
@@ -81,14 +81,14 @@ def read_body(path, crate, homes):
     return Body(path.name, hunks, "", re.findall(r"^# goal: (\S+)$", text, re.M), list(dict.fromkeys(functions)), bool(named), text)
 
 
-def read_bodies(folder, crate, homes, name=None):
-    """The edits of a folder, or the one of this name; and for each that can't be tried its name and the reason."""
+def read_bodies(folder, crate, homes, names=None):
+    """The edits of a folder, or those of these names; and for each that can't be tried its name and the reason."""
     paths, faults = edits_in(folder)
     bodies = []
     for path in paths:
-        if name in (None, path.stem):
+        if names is None or path.stem in names:
             try:
                 bodies.append(read_body(path, crate, homes))
             except Bad as error:
                 faults.append((path.name, str(error)))
-    return bodies, [(it, f"BAD EDIT: {why}") for it, why in faults if name in (None, it.removesuffix(".edit"))]
+    return bodies, [(it, f"BAD EDIT: {why}") for it, why in faults if names is None or it.removesuffix(".edit") in names]

@@ -1,4 +1,5 @@
 """Results that earlier runs kept, by the checksum of all that a check reads, and the table of kinds."""
+import contextlib
 import hashlib
 import json
 import os
@@ -46,7 +47,7 @@ def sum_of_kit(kit):
 
 
 class Kept:
-    """A folder with a file for each result that is settled. The file's name is the sum of all that the result was made from, so it never goes stale."""
+    """A folder with a file for each result that is settled. Its name is the sum of all that the result was made from, so it never goes stale."""
 
     def __init__(self, folder, anew):
         self.folder, self.anew = pathlib.Path(folder), anew
@@ -62,19 +63,19 @@ class Kept:
 
     def put(self, name, result):
         if result.verdict in SETTLED:
-            try:
+            # (where the disk is full, say, the result is only made once more)
+            with contextlib.suppress(OSError):
                 self.folder.mkdir(parents=True, exist_ok=True)
                 new = self.folder / f"{name}.{os.getpid()}"
                 new.write_text(json.dumps(result))
                 new.replace(self.folder / name)
-            except OSError:
-                # A full disk, say: the result is only made once more.
-                pass
 
     def prune(self):
         for path in self.folder.glob("*"):
-            if path.stat().st_mtime < time.time() - STAYS * 86400:
-                path.unlink(missing_ok=True)
+            # (another run may remove it too)
+            with contextlib.suppress(OSError):
+                if path.stat().st_mtime < time.time() - STAYS * 86400:
+                    path.unlink()
 
 
 def folder_of_results():
@@ -97,8 +98,9 @@ def sum_of_kind(body, crate):
 
 
 def kind_of(wrong, right, probe):
-    """The kind of a wrong body, by what the search says of it and of the right one; None if it has none, as a weak contract lets it through. A goal that the
-    right body has under another name may have an answer there: so where it has answers left, it must have a goal that is refused in the wrong body."""
+    """The kind of a wrong body, by what the search says of it and of the right one; None if it has none, as a weak contract lets it through. A goal
+    that the right body has under another name may have an answer there: so where it has answers left, it must have a goal that is refused in the
+    wrong body."""
     if wrong.verdict != REFUSED or right.verdict not in SETTLED or probe and probe.verdict not in SETTLED:
         return None
     return GOOD if right.verdict == PROVED and (not probe or set(probe.goals) & set(wrong.goals)) else BY_HAND
@@ -111,5 +113,5 @@ def read_kinds(path):
 
 
 def write_kinds(path, kinds):
-    about = "# For each wrong body whether the search proves the right one, and the sum of what that was found for. `tests/wrong-bodies --kinds` writes this.\n"
+    about = "# Whether the search proves the right body, and the sum of what that was found for. `tests/wrong-bodies --kinds` writes this.\n"
     path.write_text(about + "".join(f"{name} {kind} {total}\n" for name, (kind, total) in sorted(kinds.items())))

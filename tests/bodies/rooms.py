@@ -11,7 +11,8 @@ PARTS = ("src", "specs", "proofs")
 # The files of a function's proof that a copy can have too.
 COPIED = {"Answers.antt", "Invariants.antt"}
 
-# What is checked: wrong bodies; the functions as they are; or these with a hole as the answer to each goal that a wrong body names, to see which there are.
+# What is checked: wrong bodies; the functions as they are; or these with a hole as the answer to each goal that a wrong body names, to see which
+# there are.
 WRONG, RIGHT, PROBE = "wrong", "right", "probe"
 
 Check = collections.namedtuple("Check", "crate bodies mode")
@@ -36,7 +37,7 @@ def is_inside(body, crate):
 
 
 def proofs_for(crate, function, name):
-    """The files of a function's proof, as a copy of this name has them; None if they name the function in another way than by the module of its proof."""
+    """The files of a function's proof, as a copy of this name has them; None if they name it in another way than by the module of its proof."""
     folder, texts = crate / "proofs" / function.proofs, {}
     module = f"Rattle.{crate.name}.proofs.{function.proofs.replace('/', '.')}"
     for path in folder.iterdir() if folder.is_dir() else []:
@@ -49,8 +50,9 @@ def proofs_for(crate, function, name):
 
 
 def can_be_in_copy(body, crate):
-    """Whether a wrong body can be in a copy of its function: if it changes nothing but what is inside the braces of one function, which is of no trait, in no
-    cycle of calls, and calls none of its own name, which may be itself. There is no copy of a function whose attributes or end may be elsewhere than they seem."""
+    """Whether a wrong body can be in a copy of its function: if it changes nothing but what is inside the braces of one function, which is of no
+    trait, in no cycle of calls, and calls none of its own name, which may be itself. There is no copy of a function whose attributes or end may be
+    elsewhere than they seem."""
     function = body.functions[0]
     if body.alone or not function.own or function.cycle or any(hunk.function != function for hunk in body.hunks):
         return False
@@ -116,8 +118,8 @@ def copied(body, lines, hunks):
 
 
 def without_answers(text, goals):
-    """A file of answers without those to these goals, or None if no answer is left. An answer goes on to the next line that isn't indented and is none of
-    its own: its equation, a closing bracket, or what it unfolds."""
+    """A file of answers without those to these goals, or None if no answer is left. An answer goes on to the next line that isn't indented and is
+    none of its own: its equation, a closing bracket, or what it unfolds."""
     kept, taken = [], ""
     for line in text.split("\n"):
         begins = re.match(r"(?:abbrev |unfoldable )?pub (\S+) :", line)
@@ -158,8 +160,8 @@ def leave_contracts(room, crate, kept):
 
 
 def furnish(check, room, whole):
-    """Copies the crate with its wrong bodies to a folder, without an answer to any goal that they name, and returns for each body the functions that it
-    changes as they are there. Of the other functions only the contracts are left, unless the whole crate is to be there."""
+    """Copies the crate with its wrong bodies to a folder, without an answer to any goal that they name, and returns for each body the functions that
+    it changes as they are there. Of the other functions only the contracts are left, unless the whole crate is to be there."""
     for part in PARTS:
         if (check.crate / part).is_dir():
             shutil.copytree(check.crate / part, room / part)
@@ -170,7 +172,8 @@ def furnish(check, room, whole):
             own = [it for it in body.hunks if it.file == file and check.mode == WRONG]
             hunks += [copied(body, lines, own)] if body.copy and body.functions[0].file == file else own
         (room / file).write_text("\n".join(with_hunks(lines, hunks)))
-    now = {file: functions_of(file, (room / file).read_text().split("\n"), homes) for file in {it.file for body in check.bodies for it in body.functions}}
+    files = {it.file for body in check.bodies for it in body.functions}
+    now = {file: functions_of(file, (room / file).read_text().split("\n"), homes) for file in files}
     same = lambda a, b: (a.file, a.proofs, a.cycle) == (b.file, b.proofs, b.cycle)
     changed = {}
     for body in check.bodies:

@@ -5,10 +5,10 @@ import re
 
 from bodies.functions import path_of
 
-# A wrong body is refused: the prover's own search leaves a goal open that it names. Or its function is proved; or other goals are open. These three stay so
-# wherever the same is checked. Or it can't be compiled or read; or nothing is known of it.
-REFUSED, PROVED, OTHER, BAD, UNSURE = "refused", "proved", "other", "bad", "unsure"
-SETTLED = (REFUSED, PROVED, OTHER)
+# A wrong body is refused: the prover's own search leaves a goal open that it names. Or its function is proved; or only other goals are open; or only an
+# answer or an invariant of the right body is refused. These four stay so wherever the same is checked. Or it can't be compiled or read; or nothing is known of it.
+REFUSED, PROVED, OTHER, ANSWER, BAD, UNSURE = "refused", "proved", "other", "answer", "bad", "unsure"
+SETTLED = (REFUSED, PROVED, OTHER, ANSWER)
 
 # `goals` are those that the wrong body names and the search leaves open.
 Result = collections.namedtuple("Result", "verdict reason goals", defaults=((),))
@@ -22,7 +22,10 @@ CALLS = re.compile(r": it calls [^;]*, which (is|are) not proved")
 HOLD = ("proved", "no holes", "depends on a hole")
 ENDED = re.compile(r"only=\d+ ")
 # The prover's words for limits that are its own, and not a search's; and for a library's kept work that it can't use.
-LIMIT = re.compile(r"antt ran out of (stack|the (steps|memory) that the check of one declaration may (take|use))|(outgrew the memory limit|stopped at the step limit) \(")
+LIMIT = re.compile(
+    r"antt ran out of (stack|the (steps|memory) that the check of one declaration may (take|use))"
+    r"|(outgrew the memory limit|stopped at the step limit) \("
+)
 # What it says of a text that it can't read. One that only makes a statement false reads well.
 UNREAD = re.compile(r"is not in scope|has no field|is no name|operand is missing|expected the end|cannot continue")
 
@@ -62,6 +65,10 @@ def of_body(body, functions, status, said):
     told = [told.get(path_of(it)) for it in functions]
     verdicts = [it["verdict"] if it else "" for it in told]
     opened = [(it["goal"], place.string) for place in places for it in [OPEN.match(place["what"])] if it]
+    broken = next((it.string for it in places if it["file"].endswith("/Invariants.antt") and re.match(r"error\b", it["what"])), "")
+    if broken:
+        # Then goals are open for this alone.
+        return Result(ANSWER, f"an invariant of the right body is refused: {broken}")
     named = {goal: line for goal, line in reversed(opened) if goal in body.goals}
     if status == 1 and named and any(it in ("not proved", "no proof") for it in verdicts):
         return Result(REFUSED, list(named.values())[-1], sorted(named))
@@ -74,8 +81,7 @@ def of_body(body, functions, status, said):
         goals = ", ".join(dict.fromkeys(f"`{goal}`" for goal, _ in opened))
         return Result(OTHER, f"the goals that are left open are {goals}, and it names none of them")
     if all(verdicts) and functions:
-        # Only answers are refused, which says nothing of the contract.
-        return Result(OTHER, f"no goal is left open, only an answer is refused: {[*errors, *(it.string for it in told)][0]}")
+        return Result(ANSWER, f"no goal is left open, only an answer is refused: {[*errors, *(it.string for it in told)][0]}")
     return Result(UNSURE, "the check says nothing of its function")
 
 
@@ -97,7 +103,7 @@ def probed(bodies, functions, said):
     """Which of the goals that a wrong body names the right body has too, by a check in which their answers are holes."""
     results = {}
     for body in bodies:
-        places = [it for it in map(PLACE.match, said) if it and it["file"].endswith("/Answers.antt") and any(is_of(it, one) for one in functions[body.name])]
+        places = [it for it in map(PLACE.match, said) if it and any(is_of(it, function) for function in functions[body.name])]
         found = [it[1] for place in places for it in [re.match(r"goal \? in `([^`]+)`", place["what"])] if it]
         ended = any(map(ENDED.match, said))
         results[body.name] = Result(PROVED if ended else UNSURE, "the right body has these goals", sorted(set(found)))
