@@ -1,5 +1,8 @@
 """Tests of the parts of tests/wrong-bodies: `python3 -m unittest discover tests`. What the prover says is stored in tests/checks."""
+import importlib.machinery
+import importlib.util
 import pathlib
+import sys
 import tempfile
 import textwrap
 import unittest
@@ -7,10 +10,23 @@ import unittest
 from bodies import kept, verdicts
 from bodies.edits import Bad, Body, read_bodies, read_body
 from bodies.functions import Function, functions_of, homes_of
-from bodies.rooms import PROBE, RIGHT, WRONG, answers_left, checks_of, furnish, without_answers
+from bodies.rooms import PROBE, RIGHT, WRONG, Check, answers_left, checks_of, furnish, without_answers
 from bodies.verdicts import ANSWER, BAD, OTHER, PROVED, REFUSED, UNSURE, Result
 
 CHECKS = pathlib.Path(__file__).resolve().parent / "checks"
+
+
+def program():
+    """tests/wrong-bodies as a module, which has no file of its own kept beside it."""
+    loader = importlib.machinery.SourceFileLoader("wrong_bodies", str(CHECKS.parent / "wrong-bodies"))
+    module = importlib.util.module_from_spec(importlib.util.spec_from_loader("wrong_bodies", loader))
+    before, sys.dont_write_bytecode = sys.dont_write_bytecode, True
+    loader.exec_module(module)
+    sys.dont_write_bytecode = before
+    return module
+
+
+PROGRAM = program()
 
 SOURCE = """\
 use std::alloc::Global;
@@ -276,6 +292,42 @@ class Verdicts(unittest.TestCase):
 
     def test_a_contract_that_cannot_be_read_is_bad(self):
         self.assertEqual(self.judged("unread", "returns").verdict, BAD)
+
+
+class Tried(unittest.TestCase):
+    """Which checks are made until all is settled."""
+
+    def tried(self, names, *says):
+        """The verdicts of these bodies, and the checks that were made: the bodies and whether it was the whole crate. `says` has what each check says,
+        or an error elsewhere if its last word is `!`."""
+        made, left = [], list(says)
+
+        def once(check, whole):
+            made.append(("whole " if whole else "") + " ".join(body.name + "+" * bool(body.copy) for body in check.bodies))
+            words = left.pop(0).split()
+            return {body.name: Result(verdict, "") for body, verdict in zip(check.bodies, words)}, words[-1] == "!"
+
+        checker = PROGRAM.Checker.__new__(PROGRAM.Checker)
+        checker.once = once
+        bodies = [Body(name, [], "copy" if name == "c" else "", [], [], False, "") for name in names]
+        found = checker.tried(Check(None, bodies, WRONG))
+        self.assertEqual(left, [])
+        return {name: result.verdict for name, result in found.items()}, made
+
+    def test_settled_at_once(self):
+        self.assertEqual(self.tried("abc", "refused proved other"), ({"a": REFUSED, "b": PROVED, "c": OTHER}, ["a b c+"]))
+
+    def test_others_are_tried_without_the_bad_one(self):
+        found = self.tried("abc", "bad unsure unsure", "refused refused")
+        self.assertEqual(found, ({"a": BAD, "b": REFUSED, "c": REFUSED}, ["a b c+", "b c+"]))
+
+    def test_each_is_tried_alone_and_not_in_a_copy(self):
+        found = self.tried("ac", "unsure unsure", "refused", "unsure")
+        self.assertEqual(found, ({"a": REFUSED, "c": UNSURE}, ["a c+", "a", "c"]))
+
+    def test_the_whole_crate_is_tried_if_an_error_is_elsewhere(self):
+        self.assertEqual(self.tried("a", "unsure !", "refused"), ({"a": REFUSED}, ["a", "whole a"]))
+        self.assertEqual(self.tried("a", "refused !"), ({"a": REFUSED}, ["a"]))
 
 
 class Kept(unittest.TestCase):
